@@ -1,0 +1,8 @@
+//! Certificates: for each function, the steps which show that the new one does what the old one did.
+#![tactic(auto)]
+
+mod proofs;
+#[cfg(test)]
+mod tests;
+
+pub use proofs::{Certificate, Claim, Entry, PairProof};

@@ -1,0 +1,12 @@
+//! States of a database, calls of its functions, and what may hold between two states.
+#![tactic(auto)]
+
+mod calling;
+mod relating;
+mod states;
+#[cfg(test)]
+mod tests;
+
+pub use calling::{Answer, Args, Calls, Invocation, Keys, Reply};
+pub use relating::{Invariant, Invariants, View};
+pub use states::{Placed, Row, State};
