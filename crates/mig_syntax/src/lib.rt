@@ -1,8 +1,14 @@
 //! The texts of jobs and programs: read, and written.
 #![tactic(auto)]
 
+mod print;
+mod print_parts;
+mod print_words;
 mod tree;
 
+pub use print::{print_program, put_program};
+pub use print_parts::{put_col, put_cols, put_join};
+pub use print_words::{put, put_number};
 pub use tree::{
     AssignTree, BodyTree, ColName, FunctionTree, HintTree, JobTree, SelectTree, StmtTree,
 };
