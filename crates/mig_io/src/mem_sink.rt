@@ -92,7 +92,9 @@ impl Sink for MemSink {
         if self.faults.fails(self.room == 0 && !piece.is_empty()) {
             return Err(SinkFault::Failed);
         }
-        let n = piece.len().min((self.piece as usize).min(self.room as usize));
+        let n = piece
+            .len()
+            .min((self.piece as usize).min(self.room as usize));
         self.keep(&piece[..n]);
         Ok(n)
     }

@@ -45,7 +45,10 @@ impl Shelf {
     pub(crate) fn find(&self, name: &Word) -> Option<&Bytes>
         ensures { option_copied result ≡ bytes_on self.now name.now }
     {
-        let entry = self.entries.iter().find(|entry| same_text(&entry.name, name))?;
+        let entry = self
+            .entries
+            .iter()
+            .find(|entry| same_text(&entry.name, name))?;
         Some(&entry.bytes)
     }
 }
