@@ -10,7 +10,7 @@ held_by files name = bytes_on files.shelf name
 
 -- how many faults there were
 abbrev pub fault_count : MemFiles → ℕ
-fault_count files = files.faults.count
+fault_count files = files.faults.count.number
 
 -- the names asked for
 abbrev pub names_asked : MemFiles → List (List ℕ)

@@ -17,7 +17,7 @@ piece_of sink = sink.piece
 
 -- how many faults there were
 abbrev pub fault_count : MemSink → ℕ
-fault_count sink = sink.faults.count
+fault_count sink = sink.faults.count.number
 
 -- how many calls there were
 abbrev pub calls_of : MemSink → ℕ

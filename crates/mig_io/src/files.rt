@@ -1,5 +1,5 @@
 // Files that are asked for by name.
-ghost use Rattle.std.specs.Prelude.{◌≡◌, ℕ, ◌<◌, ◌≤◌, List, [], ◌∷◌, ◌++◌, length, Option, IfOk};
+ghost use Rattle.std.specs.Prelude.{◌≡◌, ℕ, ◌^◌, ◌<◌, ◌≤◌, List, [], ◌∷◌, ◌++◌, length, Option, IfOk};
 ghost use Rattle.std.specs.Option.{ForSome};
 ghost use Rattle.mig_io.specs.Counts.{Rose};
 
@@ -42,6 +42,7 @@ pub trait Files {
         ensures failed { result ≡ Err FetchFault.Failed → Rose (faults self.old) (faults self.new) }
         ensures long { result ≡ Err FetchFault.Long → ForSome (told self.old name.now) (λ held. cap < length held) }
         ensures later { faults self.old ≤ faults self.new }
+        ensures bounded { faults self.new < 2 ^ 64 }
         ensures keeps { told self.new ≡ told self.old }
         ensures asks { asked self.new ≡ asked self.old ++ name.now ∷ [] };
 }

@@ -3,6 +3,7 @@
 
 mod asked;
 mod clean;
+mod count;
 mod faults;
 mod files;
 mod mem_files;

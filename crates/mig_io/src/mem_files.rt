@@ -1,5 +1,5 @@
 // Files in memory, for tests: they fail at the calls that are listed.
-ghost use Rattle.std.specs.Prelude.{◌≡◌, ℕ, ◌+◌, ◌<◌, ◌≤◌, ◌↔◌, ◌||◌, if◌then◌else◌, List, [], ◌∷◌, ◌++◌, length, None, is_none, IsTrue, IfOk, OnOk, OnErr};
+ghost use Rattle.std.specs.Prelude.{◌≡◌, ℕ, ◌^◌, ◌<◌, ◌≤◌, ◌↔◌, ◌||◌, if◌then◌else◌, List, [], ◌∷◌, ◌++◌, length, None, is_none, IsTrue, IfOk, OnOk, OnErr};
 ghost use Rattle.std.specs.Option.{ForSome};
 ghost use Rattle.mig_io.specs.Counts.{Rose, raised};
 ghost use Rattle.mig_io.specs.Told.{HoldsToo};
@@ -67,6 +67,7 @@ impl Files for MemFiles {
         ensures failed { result ≡ Err FetchFault.Failed → Rose (fault_count self.old) (fault_count self.new) }
         ensures long { result ≡ Err FetchFault.Long → ForSome (held_by self.old name.now) (λ held. cap < length held) }
         ensures later { fault_count self.old ≤ fault_count self.new }
+        ensures bounded { fault_count self.new < 2 ^ 64 }
         ensures keeps { held_by self.new ≡ held_by self.old }
         ensures asks { names_asked self.new ≡ names_asked self.old ++ name.now ∷ [] }
 

@@ -1,5 +1,5 @@
 // A sink in memory, for tests: it takes small pieces, has an end, and fails at the calls that are listed.
-ghost use Rattle.std.specs.Prelude.{◌≡◌, ℕ, ◌+◌, ◌-◌, ◌<◌, ◌≤◌, ◌↔◌, ◌++◌, if◌then◌else◌, [], List, take, length, min, Some, IsTrue, IfOk, OnErr, IsErr, vec_capacity};
+ghost use Rattle.std.specs.Prelude.{◌≡◌, ℕ, ◌+◌, ◌-◌, ◌^◌, ◌<◌, ◌≤◌, ◌↔◌, ◌++◌, if◌then◌else◌, [], List, take, length, min, Some, IsTrue, IfOk, OnErr, IsErr, vec_capacity};
 
 use crate::faults::Faults;
 use crate::sinks::{Sink, SinkFault};
@@ -42,7 +42,7 @@ impl MemSink {
 
     /// All bytes that it took, in order. It takes no memory.
     pub fn taken(&self) -> &[u8]
-        ensures { result.now ≡ bytes_taken self.now }
+        ensures { ⟦<MemSink as Sink>⟧.took self.now ≡ Some result.now }
     {
         self.bytes.as_slice()
     }
@@ -79,6 +79,7 @@ impl Sink for MemSink {
         ensures nothing { OnErr result (Some (bytes_taken self.new) ≡ Some (bytes_taken self.old)) }
         ensures failed { OnErr result (Rose (fault_count self.old) (fault_count self.new)) }
         ensures later { fault_count self.old ≤ fault_count self.new }
+        ensures bounded { fault_count self.new < 2 ^ 64 }
 
         // Beyond the trait's clauses:
         ensures fails { IsErr result ↔ IsTrue (put_fails self.old piece.now) }

@@ -1,7 +1,8 @@
 // The files of the system.
-ghost use Rattle.std.specs.Prelude.{◌≡◌, ℕ, ◌+◌, ◌<◌, ◌≤◌, List, [], length, None, IfOk, IfSome};
+ghost use Rattle.std.specs.Prelude.{◌≡◌, ℕ, ◌+◌, ◌^◌, ◌<◌, ◌≤◌, List, [], length, None, IfOk, IfSome};
 
 use crate::asked::Asked;
+use crate::count::Count;
 use crate::files::{FetchFault, Files};
 use mig_schema::{Bytes, Seq, Word};
 use std::alloc::Global;
@@ -56,7 +57,7 @@ fn read_at<R: rt::Files>(alloc: Global, rt: &R, path: &[u8], cap: u64) -> Result
 #[derive(Drop)]
 pub struct RealFiles<R: rt::Files + Drop> {
     rt: R,
-    count: u64,
+    count: Count,
     names: Asked,
 }
 
@@ -68,7 +69,7 @@ impl<R: rt::Files + Drop> RealFiles<R> {
     {
         RealFiles {
             rt,
-            count: 0,
+            count: Count::new(),
             names: Asked::new(),
         }
     }
@@ -77,7 +78,7 @@ impl<R: rt::Files + Drop> RealFiles<R> {
 impl<R: rt::Files + Drop> Files for RealFiles<R> {
     ghost told = { λ _ _. None };
 
-    ghost faults = { λ s. s.count };
+    ghost faults = { λ s. s.count.number };
 
     ghost asked = { λ s. s.names.names };
 
@@ -88,7 +89,7 @@ impl<R: rt::Files + Drop> Files for RealFiles<R> {
             Err(Stopped::Memory) => Err(FetchFault::Memory),
             Err(Stopped::Long) => Err(FetchFault::Long),
             Err(Stopped::Failed) => {
-                self.count = self.count.saturating_add(1);
+                self.count.rise();
                 Err(FetchFault::Failed)
             }
         }

@@ -1,5 +1,5 @@
 // What takes bytes, and the writing of a whole text to it.
-ghost use Rattle.std.specs.Prelude.{◌≡◌, ℕ, ◌<◌, ◌≤◌, List, take, length, Option, IfOk, OnOk, OnErr};
+ghost use Rattle.std.specs.Prelude.{◌≡◌, ℕ, ◌^◌, ◌<◌, ◌≤◌, List, take, length, Option, IfOk, OnOk, OnErr};
 ghost use Rattle.mig_io.specs.Counts.{Rose};
 ghost use Rattle.mig_io.specs.Taken.{and_then, TookFront};
 
@@ -31,7 +31,8 @@ pub trait Sink {
         ensures some { IfOk result (λ n. 0 < length piece.now → 0 < n) }
         ensures nothing { OnErr result (took self.new ≡ took self.old) }
         ensures failed { OnErr result (Rose (faults self.old) (faults self.new)) }
-        ensures later { faults self.old ≤ faults self.new };
+        ensures later { faults self.old ≤ faults self.new }
+        ensures bounded { faults self.new < 2 ^ 64 };
 }
 
 /// Puts the whole text, in as many pieces as the sink wants. It takes no memory.
