@@ -4,6 +4,7 @@
 mod print;
 mod print_parts;
 mod print_words;
+mod numbers;
 mod tree;
 
 pub use print::{print_program, put_program};
