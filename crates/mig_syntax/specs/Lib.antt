@@ -1,2 +1,9 @@
 pub mod Printing
+pub mod Bytes
+pub mod Class
+pub mod Given
+pub mod Marked
 pub mod Numbers
+pub mod Places
+pub mod Reading
+pub mod Tokens

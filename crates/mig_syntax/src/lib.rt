@@ -4,12 +4,19 @@
 mod print;
 mod print_parts;
 mod print_words;
+mod bytes;
+mod fault;
+mod lex;
 mod numbers;
+mod token;
 mod tree;
 
 pub use print::{print_program, put_program};
 pub use print_parts::{put_col, put_cols, put_join};
 pub use print_words::{put, put_number};
+pub use fault::{Limit, ReadError, TextFault};
+pub use lex::tokens;
+pub use token::Token;
 pub use tree::{
     AssignTree, BodyTree, ColName, FunctionTree, HintTree, JobTree, SelectTree, StmtTree,
 };

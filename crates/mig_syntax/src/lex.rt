@@ -1,0 +1,89 @@
+ghost use Rattle.std.specs.Prelude.{◌≡◌, ℕ, ◌<◌, ◌≤◌, ◌∷◌, length, IfOk};
+ghost use Rattle.mig_syntax.specs.Bytes.{first_is, is_digit};
+ghost use Rattle.mig_syntax.specs.Class.{made};
+ghost use Rattle.mig_syntax.specs.Tokens as spec;
+
+use crate::bytes::{after_gap, digits_len, is_digit, is_letter, name_len, sign_len};
+use crate::token::Token;
+use mig_schema::{Seq, Txt};
+use std::alloc::{AllocError, Global};
+
+/// Whether a digit is first.
+pub fn digit_first(bytes: &[u8]) -> bool
+    ensures { result ≡ first_is is_digit bytes.now }
+{
+    match bytes {
+        [b, ..] => is_digit(*b),
+        [] => false,
+    }
+}
+
+/// The classes of tokens that have a text.
+#[derive(Clone, Copy)]
+enum Class {
+    Word,
+    Int,
+    Sign,
+}
+
+fn token_of(class: Class, text: Txt) -> Token
+    ensures { result ≡ made class text }
+{
+    match class {
+        Class::Word => Token::Word(text),
+        Class::Int => Token::Int(text),
+        Class::Sign => Token::Sign(text),
+    }
+}
+
+/// The first n bytes as a token, and the bytes after it.
+fn cut(alloc: Global, class: Class, n: usize, bytes: &[u8]) -> Result<(Token, &[u8]), AllocError>
+    requires some { 0 < n }
+    requires within { n ≤ length bytes.now }
+    ensures value { IfOk result (λ x. (x.0, x.1.now) ≡ spec.cut (made class) n bytes.now) }
+    ensures less { IfOk result (λ x. length x.1.now < length bytes.now) }
+{
+    let (front, rest) = bytes.split_at(n);
+    let text = Seq::from_slice(alloc, front)?;
+    Ok((token_of(class, text), rest))
+}
+
+/// The token at the front, and what follows it.
+fn first_token<'a>(
+    alloc: Global,
+    first: u8,
+    rest: &'a [u8],
+    bytes: &'a [u8],
+) -> Result<(Token, &'a [u8]), AllocError>
+    requires { bytes.now ≡ first ∷ rest.now }
+    ensures value { IfOk result (λ x. (x.0, x.1.now) ≡ spec.first_token first rest.now) }
+    ensures less { IfOk result (λ x. length x.1.now < length bytes.now) }
+{
+    if is_letter(first) {
+        return cut(alloc, Class::Word, name_len(bytes), bytes);
+    }
+    if is_digit(first) {
+        return cut(alloc, Class::Int, digits_len(bytes), bytes);
+    }
+    if first == b'-' && digit_first(rest) {
+        return cut(alloc, Class::Int, digits_len(rest) + 1, bytes);
+    }
+    match sign_len(first, rest) {
+        0 => Ok((Token::Bad, rest)),
+        n => cut(alloc, Class::Sign, n, bytes),
+    }
+}
+
+/// All tokens of the bytes.
+pub fn tokens(alloc: Global, bytes: &[u8]) -> Result<Vec<Token>, AllocError>
+    ensures { IfOk result (λ v. spec.Lexes bytes.now v.items) }
+{
+    let mut tokens = Vec::new(alloc);
+    let mut rest = after_gap(bytes);
+    while let [b, more @ ..] = rest {
+        let (token, after) = first_token(alloc, *b, more, rest)?;
+        tokens.push(token)?;
+        rest = after_gap(after);
+    }
+    Ok(tokens)
+}
