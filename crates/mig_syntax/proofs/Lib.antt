@@ -1,3 +1,10 @@
 pub mod PrintLemmas
+pub mod Choice
 pub mod Digits
+pub mod Laws
 pub mod LexLemmas
+pub mod ListParts
+pub mod Loop
+pub mod Many
+pub mod Steps
+pub mod Whole

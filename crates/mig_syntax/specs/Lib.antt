@@ -4,6 +4,10 @@ pub mod Class
 pub mod Given
 pub mod Marked
 pub mod Numbers
+pub mod Parts
 pub mod Places
 pub mod Reading
+pub mod Shapes
+pub mod Spelling
+pub mod Texts
 pub mod Tokens

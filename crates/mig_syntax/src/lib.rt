@@ -5,18 +5,31 @@ mod print;
 mod print_parts;
 mod print_words;
 mod bytes;
+mod columns;
 mod fault;
+mod functions;
+mod jobs;
 mod lex;
+mod limits;
+mod lists;
 mod numbers;
+mod pieces;
+mod schemas;
+mod selects;
+mod statements;
 mod token;
 mod tree;
+mod words;
 
 pub use print::{print_program, put_program};
 pub use print_parts::{put_col, put_cols, put_join};
 pub use print_words::{put, put_number};
 pub use fault::{Limit, ReadError, TextFault};
+pub use jobs::read_tree;
 pub use lex::tokens;
 pub use token::Token;
 pub use tree::{
     AssignTree, BodyTree, ColName, FunctionTree, HintTree, JobTree, SelectTree, StmtTree,
 };
+#[cfg(test)]
+mod tests;
