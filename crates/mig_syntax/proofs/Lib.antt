@@ -6,5 +6,8 @@ pub mod LexLemmas
 pub mod ListParts
 pub mod Loop
 pub mod Many
+pub mod SchemaParts
+pub mod StatementParts
 pub mod Steps
+pub mod TokenParts
 pub mod Whole
