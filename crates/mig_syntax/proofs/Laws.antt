@@ -147,7 +147,7 @@ module _ {A : Type 0} (reads : Token → Option A) (mark : A → Option Limit) w
 abbrev pub Both : {A B : Type 0} → (List Marked → A → Type 0) → (A → List Marked → B → Type 0) → List Marked → B → Type 0
 Both {A = A} P Q ms y = (front : List Marked) × (back : List Marked) × (x : A) × (ms ≡ front ++ back) × P front x × Q x back y
 
-module _ {A B : Type 0} (p : List Token → Read A) (q : A → List Token → Read B) (P : List Marked → A → Type 0) (Q : A → List Marked → B → Type 0) (NP NQ : Option Token → Type 0) (lp : Law p P NP) (lq : (x : A) → Law (q x) (Q x) NQ) where
+module _ {A B : Type 0} (p : List Token → Read A) (q : A → List Token → Read B) (P : List Marked → A → Type 0) (Q : A → List Marked → B → Type 0) (NP NQ : Option Token → Type 0) (lp : Law p P NP) (lq : (x : A) (ms : List Marked) → P ms x → Law (q x) (Q x) NQ) where
   both_second : (ts : List Token) (x : A) (rest : List Token) → Takes p P ts x rest → (o : Read B) → Told (q x) (Q x) rest o → Told (bind_at p q) (Both P Q) ts o
   both_second ts x rest h (Took y rest2) k = record {
     pre = h.pre ++ k.pre;
@@ -181,10 +181,10 @@ module _ {A B : Type 0} (p : List Token → Read A) (q : A → List Token → Re
       head_same [] t r after = refl
       head_same (u ∷ pre) t r after = refl
 
-  both_told : (example : (x : A) → Example (Q x)) (ts : List Token) (o : Read A) → Told p P ts o → Told (bind_at p q) (Both P Q) ts (o >>= λ x. q x.0 x.1)
-  both_told e ts (Took x rest) h = both_second ts x rest h (q x rest) ((lq x).told rest)
+  both_told : (example : (x : A) (ms : List Marked) → P ms x → Example (Q x)) (ts : List Token) (o : Read A) → Told p P ts o → Told (bind_at p q) (Both P Q) ts (o >>= λ x. q x.0 x.1)
+  both_told e ts (Took x rest) h = both_second ts x rest h (q x rest) ((lq x (clean h.pre) h.spelled).told rest)
   both_told e ts (Wrong rest) h =
-      let k = e h.example in
+      let k = e h.example (clean h.pre ++ h.more) h.spelled in
       record {
         pre = h.pre;
         rest = h.rest;
@@ -196,7 +196,7 @@ module _ {A B : Type 0} (p : List Token → Read A) (q : A → List Token → Re
         local = λ r s. ap (λ o. o >>= λ z. q z.0 z.1) (h.local r s);
       }
   both_told e ts (Past w rest) h =
-      let k = e h.example in
+      let k = e h.example (clean h.pre ++ (h.token, Some w) ∷ h.more) h.spelled in
       record {
         pre = h.pre;
         token = h.token;
@@ -218,13 +218,18 @@ module _ {A B : Type 0} (p : List Token → Read A) (q : A → List Token → Re
       → P front x → Q x back y → NQ (head rest) → bind_at p q (bare (front ++ back) ++ rest) ≡ verdict (front ++ back) y rest
   both_again fence front back x y rest hp hq n =
       let tokens : bare (front ++ back) ++ rest ≡ bare front ++ (bare back ++ rest) = ap (λ ts. ts ++ rest) (bare-append front back) ∙ append_assoc (bare front) (bare back) rest in
-      ap (bind_at p q) tokens ∙ ap (λ o. o >>= λ z. q z.0 z.1) (lp.again front x (bare back ++ rest) hp (fence x back y rest hq n)) ∙ verdict_both front back x y rest ((lq x).again back y rest hq n)
+      ap (bind_at p q) tokens ∙ ap (λ o. o >>= λ z. q z.0 z.1) (lp.again front x (bare back ++ rest) hp (fence x back y rest hq n)) ∙ verdict_both front back x y rest ((lq x front hp).again back y rest hq n)
 
-  pub both_law : ((x : A) → Example (Q x)) → ((x : A) (ms : List Marked) (y : B) (rest : List Token) → Q x ms y → NQ (head rest) → NP (head (bare ms ++ rest))) → Law (bind_at p q) (Both P Q) NQ
-  both_law e fence = record {
+  -- what is known of the first part helps with the second
+  pub known_law : ((x : A) (ms : List Marked) → P ms x → Example (Q x)) → ((x : A) (ms : List Marked) (y : B) (rest : List Token) → Q x ms y → NQ (head rest) → NP (head (bare ms ++ rest))) → Law (bind_at p q) (Both P Q) NQ
+  known_law e fence = record {
     told = λ ts. both_told e ts (p ts) (lp.told ts);
     again = λ ms y rest b n. subst (λ (m : List Marked). bind_at p q (bare m ++ rest) ≡ verdict m y rest) (sym b.3) (both_again fence b.0 b.1 b.2 y rest b.4 b.5 n);
   }
+
+pub both_law : {A B : Type 0} (p : List Token → Read A) (q : A → List Token → Read B) (P : List Marked → A → Type 0) (Q : A → List Marked → B → Type 0) (NP NQ : Option Token → Type 0) → Law p P NP → ((x : A) → Law (q x) (Q x) NQ)
+    → ((x : A) → Example (Q x)) → ((x : A) (ms : List Marked) (y : B) (rest : List Token) → Q x ms y → NQ (head rest) → NP (head (bare ms ++ rest))) → Law (bind_at p q) (Both P Q) NQ
+both_law p q P Q NP NQ lp lq e fence = known_law p q P Q NP NQ lp (λ x ms h. lq x) (λ x ms h. e x) fence
 
 -- ---- one part or the other, by the first token
 

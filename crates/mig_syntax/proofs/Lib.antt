@@ -1,6 +1,8 @@
 pub mod PrintLemmas
 pub mod Choice
 pub mod Digits
+pub mod FunctionParts
+pub mod JobParts
 pub mod Laws
 pub mod LexLemmas
 pub mod ListParts

@@ -5,7 +5,7 @@ use Rattle.mig_syntax.specs.declared.token.Token.{Token}
 use Rattle.mig_syntax.specs.declared.fault.Limit.{Limit}
 use Rattle.mig_syntax.specs.Marked.{Marked, clean, bare, head, is_at, first_is}
 use Rattle.mig_syntax.specs.Reading.{Read, Took, Wrong, Past, ◌>>=◌, token_at, give, bind_at, choice_at, many_at}
-use Rattle.mig_syntax.proofs.Laws.{Law, Example, Gives, Any, Both, Single, give_law, narrowed, both_law, token_law, respelled}
+use Rattle.mig_syntax.proofs.Laws.{Law, Example, Gives, Any, Both, Single, give_law, narrowed, known_law, token_law, respelled}
 
 -- spelled by a function
 abbrev pub Spelt : {B : Type 0} → (B → List Marked) → (B → Type 0) → List Marked → B → Type 0
@@ -52,16 +52,16 @@ one_token reads unread F mark r = record {
 -- A part x, and then what stands behind it. In a value y it is field y; E is what is known of the fields before.
 pub step : {A B : Type 0} (field : B → A) (E G : B → Type 0) (p : List Token → Read A) (sp : A → List Marked) (F : A → Type 0) (NP N : Option Token → Type 0) (q : A → List Token → Read B) (tail : B → List Marked)
     → Part p sp F NP
-    → ((x : A) → Part (q x) tail (λ y. ((field y ≡ x) × E y) × G y) N)
+    → ((x : A) → F x → Part (q x) tail (λ y. ((field y ≡ x) × E y) × G y) N)
     → ((y : B) (rest : List Token) → G y → N (head rest) → NP (head (bare (tail y) ++ rest)))
     → Part (bind_at p q) (λ y. sp (field y) ++ tail y) (λ y. E y × (F (field y) × G y)) N
 step field E G p sp F NP N q tail part then fence =
-    let k = then part.example in
+    let k = then part.example part.fits in
     record {
       law = respelled (bind_at p q) (Both (Spelt sp F) (λ x. Spelt tail (λ y. ((field y ≡ x) × E y) × G y))) (Spelt (λ y. sp (field y) ++ tail y) (λ y. E y × (F (field y) × G y))) N
           (λ ms y b. ((b.5.0.0.1, (subst F (sym b.5.0.0.0) b.4.0, b.5.0.1)), b.3 ∙ ap (λ m. m ++ b.1) (b.4.1 ∙ ap sp (sym b.5.0.0.0)) ∙ ap (λ m. sp (field y) ++ m) b.5.1))
           (λ ms y s. (sp (field y), tail y, field y, s.1, (s.0.1.0, refl), (((refl, s.0.0), s.0.1.1), refl)))
-          (both_law p q (Spelt sp F) (λ x. Spelt tail (λ y. ((field y ≡ x) × E y) × G y)) NP N part.law (λ x. (then x).law) (λ x. example_of (then x))
+          (known_law p q (Spelt sp F) (λ x. Spelt tail (λ y. ((field y ≡ x) × E y) × G y)) NP N part.law (λ x ms s. (then x s.0).law) (λ x ms s. example_of (then x s.0))
           (λ x ms y rest s n. subst (λ (m : List Marked). NP (head (bare m ++ rest))) (sym s.1) (fence y rest s.0.1 n)));
       example = k.example;
       fits = (k.fits.0.1, (subst F (sym k.fits.0.0) part.fits, k.fits.1));
@@ -73,7 +73,7 @@ pub valued : {A B : Type 0} {G : B → Type 0} {N : Option Token → Type 0} {q 
     → ((x : A) → Part (q x) tail (λ y. ((field y ≡ x) × E y) × G y) N)
     → Part (bind_at (token_at reads mark) q) (λ y. (unread (field y), mark (field y)) ∷ tail y) (λ y. E y × (F (field y) × G y)) N
 valued {G = G} {N = N} {q = q} {tail = tail} field E reads unread F mark r then =
-    step field E G (token_at reads mark) (λ x. (unread x, mark x) ∷ []) F Any N q tail (one_token reads unread F mark r) then (λ y rest g n. tt)
+    step field E G (token_at reads mark) (λ x. (unread x, mark x) ∷ []) F Any N q tail (one_token reads unread F mark r) (λ x f. then x) (λ y rest g n. tt)
 
 -- a token that says nothing, and then what stands behind it
 pub fixed : {B : Type 0} {G : B → Type 0} {N : Option Token → Type 0} {q : List Token → Read B} {tail : B → List Marked} (E : B → Type 0) (reads : Token → Option (Unit {0})) (t : Token) (m : Option Limit)
@@ -83,8 +83,16 @@ pub fixed : {B : Type 0} {G : B → Type 0} {N : Option Token → Type 0} {q : L
 fixed {B} {G = G} {N = N} {q = q} {tail = tail} E reads t m r then =
     refit (bind_at (token_at reads (λ u. m)) (λ u. q)) (λ y. (t, m) ∷ tail y) (λ y. E y × (Unit {0} × G y)) (λ y. E y × G y) N (λ y h. (h.0, h.1.1)) (λ y h. (h.0, (tt, h.1)))
     (step {A = Unit {0}} {B = B} (λ y. tt) E G (token_at reads (λ u. m)) (λ u. (t, m) ∷ []) (λ u. Unit {0}) Any N (λ u. q) tail (one_token reads (λ u. t) (λ u. Unit {0}) (λ u. m) r)
-    (λ u. refit q tail (λ y. E y × G y) (λ y. ((tt ≡ u) × E y) × G y) N (λ y h. ((refl, h.0), h.1)) (λ y h. (h.0.1, h.1)) then)
+    (λ u f. refit q tail (λ y. E y × G y) (λ y. ((tt ≡ u) × E y) × G y) N (λ y h. ((refl, h.0), h.1)) (λ y h. (h.0.1, h.1)) then)
     (λ y rest g n. tt))
+
+-- any part, and then what stands behind it, which may build on what is known of the part
+pub whole_known : {A B : Type 0} {G : B → Type 0} {NP N : Option Token → Type 0} {p : List Token → Read A} {sp : A → List Marked} {F : A → Type 0} {q : A → List Token → Read B} {tail : B → List Marked} (field : B → A) (E : B → Type 0)
+    → Part p sp F NP
+    → ((x : A) → F x → Part (q x) tail (λ y. ((field y ≡ x) × E y) × G y) N)
+    → ((y : B) (rest : List Token) → G y → N (head rest) → NP (head (bare (tail y) ++ rest)))
+    → Part (bind_at p q) (λ y. sp (field y) ++ tail y) (λ y. E y × (F (field y) × G y)) N
+whole_known {G = G} {NP = NP} {N = N} {p = p} {sp = sp} {F = F} {q = q} {tail = tail} field E part then fence = step field E G p sp F NP N q tail part then fence
 
 -- any part, and then what stands behind it
 pub whole : {A B : Type 0} {G : B → Type 0} {NP N : Option Token → Type 0} {p : List Token → Read A} {sp : A → List Marked} {F : A → Type 0} {q : A → List Token → Read B} {tail : B → List Marked} (field : B → A) (E : B → Type 0)
@@ -92,4 +100,4 @@ pub whole : {A B : Type 0} {G : B → Type 0} {NP N : Option Token → Type 0} {
     → ((x : A) → Part (q x) tail (λ y. ((field y ≡ x) × E y) × G y) N)
     → ((y : B) (rest : List Token) → G y → N (head rest) → NP (head (bare (tail y) ++ rest)))
     → Part (bind_at p q) (λ y. sp (field y) ++ tail y) (λ y. E y × (F (field y) × G y)) N
-whole {G = G} {NP = NP} {N = N} {p = p} {sp = sp} {F = F} {q = q} {tail = tail} field E part then fence = step field E G p sp F NP N q tail part then fence
+whole field E part then fence = whole_known field E part (λ x f. then x) fence
