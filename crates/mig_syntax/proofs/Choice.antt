@@ -38,5 +38,5 @@ pub respell : {B : Type 0} {reads : List Token → Read B} {sp : B → List Mark
 respell {reads = reads} {sp = sp} {F = F} {N = N} sp' e p = record {
   law = respelled reads (Spelt sp F) (Spelt sp' F) N (λ ms y s. (s.0, s.1 ∙ e y s.0)) (λ ms y s. (s.0, s.1 ∙ sym (e y s.0))) p.law;
   example = p.example;
-  fits = p.fits
+  fits = p.fits;
 }

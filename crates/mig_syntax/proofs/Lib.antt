@@ -1,5 +1,7 @@
 pub mod PrintLemmas
+pub mod Answer
 pub mod Choice
+pub mod Closed
 pub mod Digits
 pub mod FunctionParts
 pub mod JobParts

@@ -15,7 +15,7 @@ use crate::lists::{Item, many_of};
 use crate::pieces::{after_end, after_sign, after_word, is_word, written_weight};
 use crate::token::Token;
 use crate::tree::{FunctionTree, HintTree, JobTree};
-use mig_schema::{Table};
+use mig_schema::Table;
 use std::alloc::{AllocError, Global};
 
 impl Item for HintTree {

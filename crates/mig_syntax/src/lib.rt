@@ -31,5 +31,6 @@ pub use token::Token;
 pub use tree::{
     AssignTree, BodyTree, ColName, FunctionTree, HintTree, JobTree, SelectTree, StmtTree,
 };
+
 #[cfg(test)]
 mod tests;

@@ -101,10 +101,7 @@ pub(crate) fn name_of(
 
 /// A hint's weight, as it is written.
 #[tactic(auto, unfolding(crate::specs::Reading::token_at, crate::specs::Parts::weight_at))]
-pub(crate) fn written_weight(
-    alloc: Global,
-    tokens: &[Token],
-) -> Result<(Txt, &[Token]), ReadError>
+pub(crate) fn written_weight(alloc: Global, tokens: &[Token]) -> Result<(Txt, &[Token]), ReadError>
     ensures { Gives (λ x. (x.0, x.1.now)) result (weight_at tokens.now) }
 {
     match tokens {
