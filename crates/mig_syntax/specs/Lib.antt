@@ -3,6 +3,7 @@ pub mod Bytes
 pub mod Class
 pub mod Given
 pub mod Marked
+pub mod Naming
 pub mod Numbers
 pub mod Parts
 pub mod Places

@@ -12,6 +12,7 @@ mod jobs;
 mod lex;
 mod limits;
 mod lists;
+mod naming;
 mod numbers;
 mod pieces;
 mod schemas;
