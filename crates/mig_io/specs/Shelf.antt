@@ -1,5 +1,5 @@
 -- What names hold.
-use Rattle.std.specs.Prelude.{◌≡◌, ◌≢◌, ℕ, List, Option, Some, find}
+use Rattle.std.specs.Prelude.{ℕ, List, Option, find}
 use Rattle.std.specs.Str.{bytes_eq}
 use Rattle.std.specs.Option.{option_map}
 use Rattle.mig_io.specs.declared.shelf.Held.{Held}

@@ -38,6 +38,7 @@ pub trait Sink {
 /// Puts the whole text, in as many pieces as the sink wants. It takes no memory.
 ///
 /// After `Failed` the sink took a prefix of the text and nothing else, and the count rose.
+#[tactic(auto, using(crate::proofs::TakenLemmas::fronts_join))]
 pub fn emit<W: Sink>(out: &mut W, text: &[u8]) -> Result<(), SinkFault>
     ensures whole { OnOk result (W.took out.new ≡ and_then (W.took out.old) text.now) }
     ensures part { OnErr result (TookFront (W.took out.old) (W.took out.new) text.now) }
