@@ -1,2 +1,4 @@
 pub mod Lists
 pub mod Numbered
+pub mod Pieces
+pub mod Rules

@@ -1,6 +1,5 @@
 -- Tests of all items, of one item, and of items that are like an earlier one.
-use Rattle.std.proofs.Common.{◌≡◌, ℕ, ◌+◌, ◌<◌, ◌≤◌, zero, suc, Bool, true, false, not, ◌&&◌, ◌||◌, List, [], ◌∷◌, ◌++◌, map, length, take, get_or, refl, sym, ap, ◌∙◌, ◌⊎◌, ⊎_elim, inl, inr, arith}
-use Rattle.std.specs.Prelude.{slice_get}
+use Rattle.std.proofs.Common.{◌≡◌, ℕ, ◌+◌, ◌<◌, ◌≤◌, zero, suc, Bool, true, false, not, ◌&&◌, ◌||◌, List, [], ◌∷◌, map, length, take, get_or, refl, sym, ap, ◌∙◌, ◌⊎◌, ⊎_elim, inl, inr, arith}
 use Rattle.std.specs.List.{list_all, list_any, range_with_len}
 use Rattle.std.specs.Option.{option_map_or}
 use Rattle.std.proofs.lemmas.Bool.{and_parts, and_from, or_parts, or_from, both_ways, cases_lt, not-true, not_from_false, false_from_ne_true}
@@ -27,12 +26,17 @@ all_from_none p q (x ∷ xs) tells none =
     let h = or_parts (q x) (list_any q xs) none in
     and_from (p x) (list_all p xs) (tells x h.0) (all_from_none p q xs tells h.1)
 
-pub all_from_both : {A : Type 0} (p q r : A → Bool) (xs : List A) → ((x : A) → q x ≡ false → r x ≡ false → p x ≡ true) → list_any q xs ≡ false → list_any r xs ≡ false → list_all p xs ≡ true
-all_from_both p q r [] tells none nor = refl
-all_from_both p q r (x ∷ xs) tells none nor =
-    let h = or_parts (q x) (list_any q xs) none in
-    let k = or_parts (r x) (list_any r xs) nor in
-    and_from (p x) (list_all p xs) (tells x h.0 k.0) (all_from_both p q r xs tells h.1 k.1)
+-- where all items pass both tests, all pass their conjunction
+pub all_and : {A : Type 0} (p q : A → Bool) (xs : List A) → list_all p xs ≡ true → list_all q xs ≡ true → list_all (λ x. p x && q x) xs ≡ true
+all_and p q [] all also = refl
+all_and p q (x ∷ xs) all also =
+    let h = and_parts (p x) (list_all p xs) all in
+    let k = and_parts (q x) (list_all q xs) also in
+    and_from (p x && q x) (list_all (λ x. p x && q x) xs) (and_from (p x) (q x) h.0 k.0) (all_and p q xs h.1 k.1)
+
+pub empty_at : {A : Type 0} (xs : List A) → length xs ≡ 0 → xs ≡ []
+empty_at [] e = refl
+empty_at (x ∷ xs) e = absurd (omega arith)
 
 pub list_any-map : {A B : Type 0} (q : B → Bool) (f : A → B) (xs : List A) → list_any q (map f xs) ≡ list_any (λ x. q (f x)) xs
 list_any-map q f [] = refl

@@ -1,5 +1,5 @@
 -- The columns of the first table, numbered from 0.
-use Rattle.std.proofs.Common.{◌≡◌, ℕ, ◌==◌, List, length, sym, ap, ◌∙◌}
+use Rattle.std.proofs.Common.{◌≡◌, ◌==◌, List, length, ap, ◌∙◌}
 use Rattle.std.specs.List.{list_all, count_by, range_with_len}
 use Rattle.mig_schema.specs.declared.tables.ColId.{ColId}
 use Rattle.mig_schema.specs.declared.tables.Column.{Column}

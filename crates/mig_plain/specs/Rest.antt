@@ -1,8 +1,7 @@
 -- What is left of the typing rules where a job is plain: a test of each rule that a plain job can break.
-use Rattle.std.specs.Prelude.{ℕ, ◌==◌, Bool, false, not, ◌&&◌, List, length}
+use Rattle.std.specs.Prelude.{◌==◌, Bool, false, not, ◌&&◌, List, length}
 use Rattle.std.specs.List.{list_all, count_by, range_with_len}
 use Rattle.std.specs.Str.{bytes_eq}
-use Rattle.mig_schema.specs.declared.tables.ColId.{ColId}
 use Rattle.mig_schema.specs.declared.tables.Column.{Column}
 use Rattle.mig_schema.specs.declared.tables.Schema.{Schema}
 use Rattle.mig_schema.specs.declared.programs.Join.{Join}

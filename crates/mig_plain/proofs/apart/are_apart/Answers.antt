@@ -1,5 +1,5 @@
 -- An item of number i is like an earlier one exactly where one of the first i items is like it.
-use Rattle.std.proofs.Common.{sym, ◌∙◌, below_more, arith, ◌<◌, length}
+use Rattle.std.proofs.Common.{sym, ◌∙◌, below_more, arith}
 use Rattle.mig_plain.proofs.Lists.{again_here, apart_from, not_apart}
 use Rattle.mig_plain.proofs.apart.are_apart.Goals as goal
 

@@ -1,5 +1,5 @@
 -- Each column of the first table is one of the numbers below their count.
-use Rattle.std.proofs.Common.{◌∙◌, refl}
+use Rattle.std.proofs.Common.{◌∙◌}
 use Rattle.mig_schema.specs.declared.jobs.Hint.{Hint}
 use Rattle.mig_plain.proofs.Numbered.{each_once}
 use Rattle.mig_plain.proofs.plain.all_arrive.Goals as goal
