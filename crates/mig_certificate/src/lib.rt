@@ -4,6 +4,8 @@
 mod print;
 mod print_invariants;
 mod print_steps;
+#[cfg(test)]
+mod print_tests;
 mod proofs;
 #[cfg(test)]
 mod tests;

@@ -3,6 +3,8 @@
 
 mod print;
 mod print_parts;
+#[cfg(test)]
+mod print_tests;
 mod print_words;
 mod bytes;
 mod columns;
