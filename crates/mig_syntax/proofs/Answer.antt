@@ -1,5 +1,5 @@
 -- The answer for a text, by what reading gave.
-use Rattle.std.proofs.Common.{◌≡◌, ℕ, ◌+◌, List, [], ◌∷◌, ◌++◌, length, Option, Some, None, Result, Ok, Err, IfOk, ◌⊎◌, inl, inr, refl, sym, ap, ◌∙◌, subst, arith}
+use Rattle.std.proofs.Common.{◌≡◌, ℕ, List, [], ◌∷◌, ◌++◌, None, Ok, Err, inl, inr, refl, sym, ap, ◌∙◌, arith}
 use Rattle.mig_syntax.specs.declared.token.Token.{Token}
 use Rattle.mig_syntax.specs.declared.token.Token.TheVariants.{End}
 use Rattle.mig_syntax.specs.declared.fault.Limit.{Limit}
@@ -7,7 +7,7 @@ use Rattle.mig_syntax.specs.declared.fault.ReadError.{ReadError}
 use Rattle.mig_syntax.specs.declared.fault.ReadError.TheVariants as error
 use Rattle.mig_syntax.specs.declared.tree.JobTree.{JobTree}
 use Rattle.mig_syntax.specs.Marked.{Marked}
-use Rattle.mig_syntax.specs.Reading.{Read, Took, Wrong, Past}
+use Rattle.mig_syntax.specs.Reading.{Took, Wrong, Past}
 use Rattle.mig_syntax.specs.Given.{Fails}
 use Rattle.mig_syntax.specs.Parts.{job_at}
 use Rattle.mig_syntax.specs.Spelling.{job_tokens}

@@ -1,9 +1,9 @@
 -- Parts with a choice.
-use Rattle.std.proofs.Common.{◌≡◌, Bool, true, false, List, [], ◌∷◌, ◌++◌, Option, ◌⊎◌, inl, inr, sym, ◌∙◌, subst}
+use Rattle.std.proofs.Common.{◌≡◌, Bool, true, false, List, ◌++◌, Option, ◌⊎◌, inl, inr, sym, ◌∙◌, subst}
 use Rattle.mig_syntax.specs.declared.token.Token.{Token}
-use Rattle.mig_syntax.specs.Marked.{Marked, bare, head, is_at, first_is}
+use Rattle.mig_syntax.specs.Marked.{Marked, bare, head, first_is}
 use Rattle.mig_syntax.specs.Reading.{Read, choice_at}
-use Rattle.mig_syntax.proofs.Laws.{Law, Either, choice_law, respelled}
+use Rattle.mig_syntax.proofs.Laws.{Either, choice_law, respelled}
 use Rattle.mig_syntax.proofs.Steps.{Part, Spelt}
 
 -- one part or the other; each value is of one kind

@@ -1,12 +1,8 @@
 -- The end stands last and once, in a text and in a spelling.
-use Rattle.std.proofs.Common.{◌≡◌, ℕ, zero, suc, ◌+◌, Bool, true, false, ◌&&◌, cond, List, [], ◌∷◌, ◌++◌, length, take, drop, Option, Some, None, codes, eqb, ltb, refl, sym, ap, ◌∙◌, subst, append_assoc}
-use Rattle.std.specs.List.{take_while, AllByRecursion}
+use Rattle.std.proofs.Common.{◌≡◌, ℕ, ◌+◌, Bool, true, false, ◌&&◌, cond, List, [], ◌∷◌, ◌++◌, None, codes, eqb, ltb, refl, sym, ap, ◌∙◌, subst, append_assoc}
 use Rattle.mig_schema.specs.declared.tables.Table.{Table}
 use Rattle.mig_syntax.specs.declared.token.Token.{Token}
-use Rattle.mig_syntax.specs.declared.token.Token.TheVariants.{Word, Int, Sign, Bad, End}
-use Rattle.mig_schema.specs.declared.programs.Param.{Param}
-use Rattle.mig_syntax.specs.declared.tree.AssignTree.{AssignTree}
-use Rattle.mig_syntax.specs.declared.tree.ColName.{ColName}
+use Rattle.mig_syntax.specs.declared.token.Token.TheVariants.{End}
 use Rattle.mig_syntax.specs.declared.tree.StmtTree.{StmtTree}
 use Rattle.mig_syntax.specs.declared.tree.StmtTree.TheVariants as stmt
 use Rattle.mig_syntax.specs.declared.tree.BodyTree.{BodyTree}
@@ -14,9 +10,9 @@ use Rattle.mig_syntax.specs.declared.tree.BodyTree.TheVariants as body
 use Rattle.mig_syntax.specs.declared.tree.FunctionTree.{FunctionTree}
 use Rattle.mig_syntax.specs.declared.tree.HintTree.{HintTree}
 use Rattle.mig_syntax.specs.declared.tree.JobTree.{JobTree}
-use Rattle.mig_syntax.specs.Bytes.{is_letter, is_digit, is_name_byte, first_is, sign_len}
+use Rattle.mig_syntax.specs.Bytes.{is_letter, is_digit, first_is, sign_len}
 use Rattle.mig_syntax.specs.Marked.{Marked, bare}
-use Rattle.mig_syntax.specs.Tokens.{Lexes, first_token, cut}
+use Rattle.mig_syntax.specs.Tokens.{Lexes, first_token}
 use Rattle.mig_syntax.specs.Spelling.{word, sign, name, numbered, behind_comma, led, listed, column_tokens, table_tokens, assign_tokens, stmt_tokens, selected_tokens, body_tokens, param_tokens, function_tokens, hint_tokens, job_tokens}
 use Rattle.mig_syntax.specs.Texts.{Lexed}
 use Rattle.mig_syntax.proofs.Laws.{bare-append}

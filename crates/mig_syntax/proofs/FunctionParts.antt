@@ -1,5 +1,5 @@
 -- The laws of parameters, bodies and functions.
-use Rattle.std.proofs.Common.{◌≡◌, ℕ, ◌+◌, Bool, true, false, cond, List, [], ◌∷◌, ◌++◌, Option, Some, None, codes, ◌⊎◌, inl, inr, refl, sym, ap, ◌∙◌, subst}
+use Rattle.std.proofs.Common.{◌≡◌, ℕ, true, false, List, [], ◌∷◌, ◌++◌, Option, Some, None, codes, ◌⊎◌, inl, inr, refl, sym, ap, ◌∙◌, subst}
 use Rattle.std.specs.List.{AllByRecursion}
 use Rattle.std.proofs.lemmas.Slice.Eq.{bytes_eq-Decides}
 use Rattle.std.proofs.lemmas.List.{append-nil}
@@ -14,14 +14,13 @@ use Rattle.mig_syntax.specs.declared.functions.Head.{Head}
 use Rattle.mig_syntax.specs.declared.functions.Head.TheVariants as head
 use Rattle.mig_syntax.specs.declared.token.Token.{Token}
 use Rattle.mig_syntax.specs.declared.token.Token.TheVariants.{Word, Int, Sign, Bad, End}
-use Rattle.mig_syntax.specs.declared.fault.Limit.{Limit}
 use Rattle.mig_syntax.specs.declared.fault.Limit.TheVariants as limit
 use Rattle.mig_syntax.specs.Marked.{Marked, bare, head as first, is_at, first_is}
 use Rattle.mig_syntax.specs.Spelling.{kind_word, body_word, over, first_of, name_mark, name, sign, param_tokens, listed, led, numbered, behind_comma, stmt_tokens, select_tokens, body_tokens, function_tokens}
 use Rattle.mig_syntax.specs.Shapes.{IsName, is_param_kind, AllOfSome, IsParam, IsStmt, IsSelect, IsBody, IsFunction}
-use Rattle.mig_syntax.specs.Reading.{Read, token_at, give, bind_at, choice_at, led_at}
-use Rattle.mig_syntax.specs.Parts.{reads_sign, reads_name, reads_param_kind, reads_head, begins_word, begins_sign, begins_function, sign_at, name_at, param_kind_at, head_at, param_at, next_param_at, params_at, stmts_at, select_at, update_body_at, query_body_at, body_at, function_at, functions_at}
-use Rattle.mig_syntax.proofs.Laws.{Any, narrowed}
+use Rattle.mig_syntax.specs.Reading.{Read, token_at, give, bind_at}
+use Rattle.mig_syntax.specs.Parts.{reads_sign, reads_name, reads_param_kind, reads_head, begins_word, begins_sign, begins_function, sign_at, name_at, param_kind_at, head_at, param_at, next_param_at, params_at, update_body_at, query_body_at, body_at, function_at, functions_at}
+use Rattle.mig_syntax.proofs.Laws.{Any}
 use Rattle.mig_syntax.proofs.Steps.{Part, refit, made, valued, fixed, whole, whole_known}
 use Rattle.mig_syntax.proofs.ListParts.{many_part, led_part}
 use Rattle.mig_syntax.proofs.Choice.{either, respell}

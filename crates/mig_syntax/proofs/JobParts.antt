@@ -1,5 +1,5 @@
 -- The laws of hints and of whole jobs.
-use Rattle.std.proofs.Common.{◌≡◌, ℕ, ◌+◌, Bool, true, false, List, [], ◌∷◌, ◌++◌, Option, Some, None, codes, refl, ap, ◌∙◌}
+use Rattle.std.proofs.Common.{◌≡◌, ℕ, List, None, codes, refl, ap, ◌∙◌}
 use Rattle.std.specs.List.{AllByRecursion}
 use Rattle.mig_schema.specs.declared.tables.Table.{Table}
 use Rattle.mig_syntax.specs.declared.tree.ColName.{ColName}
@@ -8,7 +8,7 @@ use Rattle.mig_syntax.specs.declared.tree.HintTree.{HintTree}
 use Rattle.mig_syntax.specs.declared.tree.JobTree.{JobTree}
 use Rattle.mig_syntax.specs.declared.token.Token.TheVariants.{Word, Int, Sign, End}
 use Rattle.mig_syntax.specs.declared.fault.Limit.TheVariants as limit
-use Rattle.mig_syntax.specs.Spelling.{over, weight_mark, col_tokens, numbered, hint_tokens, job_tokens}
+use Rattle.mig_syntax.specs.Spelling.{over, weight_mark, numbered, hint_tokens, job_tokens}
 use Rattle.mig_syntax.specs.Shapes.{IsCol, IsTable, IsFunction, IsHint, IsJobTree}
 use Rattle.mig_syntax.specs.Parts.{reads_word, reads_sign, reads_int, reads_end, begins_word, word_at, sign_at, weight_at, end_at, hint_at, hints_at, job_at}
 use Rattle.mig_syntax.proofs.Laws.{Any}

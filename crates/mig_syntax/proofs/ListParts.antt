@@ -1,5 +1,5 @@
 -- Lists as parts.
-use Rattle.std.proofs.Common.{◌≡◌, ℕ, zero, suc, ◌+◌, Bool, true, false, List, [], ◌∷◌, ◌++◌, Option, Some, None, refl, sym, ap, ◌∙◌, subst, append_assoc}
+use Rattle.std.proofs.Common.{◌≡◌, ℕ, ◌+◌, Bool, true, false, List, [], ◌∷◌, ◌++◌, Option, refl, sym, ap, ◌∙◌, subst, append_assoc}
 use Rattle.std.specs.List.{AllByRecursion}
 use Rattle.std.proofs.lemmas.List.{append-nil}
 use Rattle.mig_syntax.specs.declared.token.Token.{Token}
@@ -7,9 +7,9 @@ use Rattle.mig_syntax.specs.Marked.{Marked, bare, head, is_at, first_is}
 use Rattle.mig_syntax.specs.Spelling.{numbered, led}
 use Rattle.mig_syntax.specs.Shapes.{AllOfSome}
 use Rattle.mig_syntax.specs.Reading.{Read, give, bind_at, many_at, led_at}
-use Rattle.mig_syntax.proofs.Laws.{Law, Example, Gives, Any, Both, give_law, narrowed, both_law, respelled}
-use Rattle.mig_syntax.proofs.Many.{Many, Item, many_law}
-use Rattle.mig_syntax.proofs.Steps.{Part, Spelt, example_of}
+use Rattle.mig_syntax.proofs.Laws.{Gives, Any, Both, give_law, narrowed, both_law, respelled}
+use Rattle.mig_syntax.proofs.Many.{Many, many_law}
+use Rattle.mig_syntax.proofs.Steps.{Part, Spelt}
 
 abbrev on : {A : Type 0} → ℕ → A → ℕ
 on k x = k + 1

@@ -1,11 +1,10 @@
 -- The law of lists, with commas or without.
-use Rattle.std.proofs.Common.{◌≡◌, ℕ, zero, suc, ◌+◌, ◌≤◌, ◌<◌, Bool, true, false, cond, List, [], ◌∷◌, ◌++◌, length, Option, Some, None, ◌⊎◌, inl, inr, refl, sym, ap, ◌∙◌, subst, append_assoc, arith}
-use Rattle.std.proofs.lemmas.List.{append_cancel_right, length-append, append-nil}
+use Rattle.std.proofs.Common.{◌≡◌, ℕ, zero, suc, ◌+◌, ◌≤◌, Bool, true, false, cond, List, [], ◌∷◌, ◌++◌, length, Option, ◌⊎◌, inl, inr, refl, sym, ap, ◌∙◌, subst, append_assoc, arith}
+use Rattle.std.proofs.lemmas.List.{length-append, append-nil}
 use Rattle.mig_syntax.specs.declared.token.Token.{Token}
-use Rattle.mig_syntax.specs.declared.fault.Limit.{Limit}
 use Rattle.mig_syntax.specs.Marked.{Marked, clean, bare, head, is_at, first_is}
 use Rattle.mig_syntax.specs.Reading.{Read, Took, Wrong, Past, ◌>>=◌, give, bind_at, choice_at, most_at, many_at}
-use Rattle.mig_syntax.proofs.Laws.{Law, Told, Takes, Errs, Passes, Example, Gives, Any, Both, Either, give_law, narrowed, both_law, choice_law, respelled, respelled_told, verdict, bare-append, bare-clean}
+use Rattle.mig_syntax.proofs.Laws.{Law, Told, Gives, Any, Both, Either, give_law, narrowed, both_law, choice_law, respelled_told, bare-append, bare-clean}
 
 -- two ways to cut a list at one length
 pub one_cut : {A : Type 0} (a b c d : List A) → a ++ b ≡ c ++ d → length b ≡ length d → (a ≡ c) × (b ≡ d)

@@ -1,5 +1,5 @@
 -- The laws of columns and tables.
-use Rattle.std.proofs.Common.{◌≡◌, ℕ, ◌+◌, Bool, true, false, List, [], ◌∷◌, ◌++◌, Option, Some, None, codes, refl, ap, ◌∙◌}
+use Rattle.std.proofs.Common.{◌≡◌, ℕ, Bool, false, List, Option, None, codes, refl, ap, ◌∙◌}
 use Rattle.std.specs.List.{AllByRecursion}
 use Rattle.mig_schema.specs.declared.tables.Kind.{Kind}
 use Rattle.mig_schema.specs.declared.tables.Column.{Column}
@@ -7,7 +7,7 @@ use Rattle.mig_schema.specs.declared.tables.Table.{Table}
 use Rattle.mig_syntax.specs.declared.token.Token.{Token}
 use Rattle.mig_syntax.specs.declared.token.Token.TheVariants.{Word, Sign}
 use Rattle.mig_syntax.specs.declared.fault.Limit.TheVariants as limit
-use Rattle.mig_syntax.specs.Marked.{Marked, is_at}
+use Rattle.mig_syntax.specs.Marked.{is_at}
 use Rattle.mig_syntax.specs.Spelling.{kind_word, over, first_of, name_mark, column_tokens, listed, table_tokens, numbered, behind_comma}
 use Rattle.mig_syntax.specs.Shapes.{IsName, IsColumn, AllOfSome, IsTable}
 use Rattle.mig_syntax.specs.Parts.{reads_word, reads_sign, reads_name, reads_kind, begins_word, begins_sign, word_at, sign_at, name_at, kind_at, column_at, next_column_at, columns_at, table_at, tables_at}

@@ -1,6 +1,5 @@
 -- The laws of columns by their names, of statements and of what a query selects.
-use Rattle.std.proofs.Common.{◌≡◌, ℕ, ◌+◌, Bool, true, false, List, [], ◌∷◌, ◌++◌, Option, Some, None, codes, refl, ap, ◌∙◌}
-use Rattle.std.specs.List.{AllByRecursion}
+use Rattle.std.proofs.Common.{◌≡◌, ℕ, true, List, [], ◌∷◌, ◌++◌, Option, None, codes, refl, ap, ◌∙◌}
 use Rattle.mig_syntax.specs.declared.tree.ColName.{ColName}
 use Rattle.mig_syntax.specs.declared.tree.AssignTree.{AssignTree}
 use Rattle.mig_syntax.specs.declared.tree.StmtTree.{StmtTree}
@@ -11,7 +10,7 @@ use Rattle.mig_syntax.specs.declared.token.Token.TheVariants.{Word, Sign}
 use Rattle.mig_syntax.specs.declared.fault.Limit.{Limit}
 use Rattle.mig_syntax.specs.declared.fault.Limit.TheVariants as limit
 use Rattle.mig_syntax.specs.Marked.{Marked, bare, first_is}
-use Rattle.mig_syntax.specs.Spelling.{over, first_of, name_mark, name, sign, word, col_marked, col_tokens, assign_tokens, listed, led, behind_comma, stmt_tokens, selected_tokens, select_tokens}
+use Rattle.mig_syntax.specs.Spelling.{over, first_of, name_mark, name, sign, word, col_marked, assign_tokens, listed, led, behind_comma, stmt_tokens, selected_tokens, select_tokens}
 use Rattle.mig_syntax.specs.Shapes.{IsName, AllOfSome, IsCol, IsAssign, IsStmt, IsSelect}
 use Rattle.mig_syntax.specs.Parts.{reads_word, reads_sign, reads_name, begins_word, begins_sign, word_at, sign_at, name_at, col_at, assign_at, next_assign_at, assigns_at, stmt_at, stmts_at, selected_at, next_selected_at, selecteds_at, select_at}
 use Rattle.mig_syntax.proofs.Laws.{Any}

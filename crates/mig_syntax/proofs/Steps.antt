@@ -1,10 +1,9 @@
 -- One step of a production after the other.
-use Rattle.std.proofs.Common.{◌≡◌, ℕ, zero, suc, Bool, true, false, cond, List, [], ◌∷◌, ◌++◌, length, Option, Some, None, ◌⊎◌, inl, inr, refl, sym, ap, ◌∙◌, subst, append_assoc, arith}
-use Rattle.std.proofs.lemmas.List.{append-nil}
+use Rattle.std.proofs.Common.{◌≡◌, List, [], ◌∷◌, ◌++◌, Option, Some, refl, sym, ap, ◌∙◌, subst}
 use Rattle.mig_syntax.specs.declared.token.Token.{Token}
 use Rattle.mig_syntax.specs.declared.fault.Limit.{Limit}
-use Rattle.mig_syntax.specs.Marked.{Marked, clean, bare, head, is_at, first_is}
-use Rattle.mig_syntax.specs.Reading.{Read, Took, Wrong, Past, ◌>>=◌, token_at, give, bind_at, choice_at, many_at}
+use Rattle.mig_syntax.specs.Marked.{Marked, bare, head}
+use Rattle.mig_syntax.specs.Reading.{Read, token_at, give, bind_at}
 use Rattle.mig_syntax.proofs.Laws.{Law, Example, Gives, Any, Both, Single, give_law, narrowed, known_law, token_law, respelled}
 
 -- spelled by a function

@@ -1,5 +1,5 @@
 -- What is read of a whole text, and what its grammar says of it.
-use Rattle.std.proofs.Common.{◌≡◌, ℕ, zero, suc, ◌+◌, ◌≤◌, Bool, true, false, List, [], ◌∷◌, ◌++◌, length, Option, Some, None, ◌⊎◌, inl, inr, refl, sym, ap, ◌∙◌, subst, append_assoc, arith}
+use Rattle.std.proofs.Common.{◌≡◌, ℕ, ◌+◌, ◌≤◌, List, [], ◌∷◌, ◌++◌, length, Option, Some, None, ◌⊎◌, inl, inr, refl, sym, ap, ◌∙◌, subst, append_assoc, arith}
 use Rattle.std.proofs.lemmas.List.{append-nil, length-append}
 use Rattle.mig_syntax.specs.declared.token.Token.{Token}
 use Rattle.mig_syntax.specs.declared.token.Token.TheVariants.{End}
@@ -7,7 +7,7 @@ use Rattle.mig_syntax.specs.declared.fault.Limit.{Limit}
 use Rattle.mig_syntax.specs.Marked.{Marked, clean, bare}
 use Rattle.mig_syntax.specs.Reading.{Read, Took, Wrong, Past}
 use Rattle.mig_syntax.specs.Places.{Begins, IsText, WrongAfter, PastAfter}
-use Rattle.mig_syntax.proofs.Laws.{Law, Told, Takes, Errs, Passes, Any, verdict, clean-append, bare-append, bare-clean}
+use Rattle.mig_syntax.proofs.Laws.{Law, Told, Errs, Any, verdict, clean-append, bare-append, bare-clean}
 use Rattle.mig_syntax.proofs.Many.{one_cut}
 use Rattle.mig_syntax.proofs.Steps.{Spelt}
 

@@ -1,7 +1,6 @@
 -- What a reading function returned, against what reading gives.
-use Rattle.std.specs.Prelude.{◌≡◌, ℕ, List, Result, Ok, Err}
+use Rattle.std.specs.Prelude.{◌≡◌, List, Result, Ok, Err}
 use Rattle.mig_syntax.specs.declared.token.Token.{Token}
-use Rattle.mig_syntax.specs.declared.fault.Limit.{Limit}
 use Rattle.mig_syntax.specs.declared.fault.ReadError.{ReadError}
 use Rattle.mig_syntax.specs.declared.fault.ReadError.TheVariants as error
 use Rattle.mig_syntax.specs.Reading.{Read, Took, Wrong, Past}

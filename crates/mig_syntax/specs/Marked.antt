@@ -1,5 +1,5 @@
 -- Tokens, and the limits that they pass.
-use Rattle.std.specs.Prelude.{ℕ, Bool, false, List, [], ◌∷◌, ◌++◌, Option, Some, None}
+use Rattle.std.specs.Prelude.{Bool, false, List, [], ◌∷◌, Option, Some, None}
 use Rattle.mig_syntax.specs.declared.token.Token.{Token}
 use Rattle.mig_syntax.specs.declared.fault.Limit.{Limit}
 

@@ -1,5 +1,5 @@
 -- Reading of each part of the grammar.
-use Rattle.std.specs.Prelude.{◌≡◌, ℕ, ◌+◌, Bool, true, false, cond, List, [], ◌∷◌, ◌++◌, length, codes, Option, Some, None}
+use Rattle.std.specs.Prelude.{ℕ, ◌+◌, Bool, true, false, cond, List, [], codes, Option, Some, None}
 use Rattle.std.specs.Str.{bytes_eq}
 use Rattle.mig_schema.specs.declared.tables.Kind.{Kind}
 use Rattle.mig_schema.specs.declared.tables.Kind.TheVariants as kind
@@ -23,7 +23,7 @@ use Rattle.mig_syntax.specs.declared.token.Token.TheVariants.{Word, Int, Sign, E
 use Rattle.mig_syntax.specs.declared.fault.Limit.{Limit}
 use Rattle.mig_syntax.specs.declared.fault.Limit.TheVariants as limit
 use Rattle.mig_syntax.specs.Spelling.{is_reserved, over, first_of, name_mark, weight_mark}
-use Rattle.mig_syntax.specs.Reading.{Read, Took, ◌>>=◌, token_at, give, bind_at, choice_at, many_at, led_at}
+use Rattle.mig_syntax.specs.Reading.{Read, Took, ◌>>=◌, token_at, give, choice_at, many_at, led_at}
 
 -- ---- tokens
 

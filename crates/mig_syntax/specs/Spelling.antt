@@ -1,6 +1,5 @@
 -- The grammar of jobs. Each function spells one of its lines in tokens, and gives each token the limit that it passes.
-use Rattle.std.specs.Prelude.{◌≡◌, ℕ, ◌+◌, ◌==◌, Bool, true, false, ◌||◌, nat_le, nat_lt, cond, List, [], ◌∷◌, ◌++◌, length, codes, Option, Some, None}
-use Rattle.std.specs.List.{AllByRecursion}
+use Rattle.std.specs.Prelude.{ℕ, ◌+◌, ◌==◌, Bool, ◌||◌, nat_le, nat_lt, cond, List, [], ◌∷◌, ◌++◌, length, codes, Option, Some, None}
 use Rattle.std.specs.Str.{bytes_eq}
 use Rattle.mig_schema.specs.declared.tables.Kind.{Kind}
 use Rattle.mig_schema.specs.declared.tables.Kind.TheVariants as kind
@@ -17,7 +16,6 @@ use Rattle.mig_syntax.specs.declared.tree.BodyTree.TheVariants as body
 use Rattle.mig_syntax.specs.declared.tree.FunctionTree.{FunctionTree}
 use Rattle.mig_syntax.specs.declared.tree.HintTree.{HintTree}
 use Rattle.mig_syntax.specs.declared.tree.JobTree.{JobTree}
-use Rattle.mig_syntax.specs.declared.token.Token.{Token}
 use Rattle.mig_syntax.specs.declared.token.Token.TheVariants.{Word, Int, Sign, End}
 use Rattle.mig_syntax.specs.declared.fault.Limit.{Limit}
 use Rattle.mig_syntax.specs.declared.fault.Limit.TheVariants as limit

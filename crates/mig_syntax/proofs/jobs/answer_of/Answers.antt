@@ -1,4 +1,3 @@
-use Rattle.std.proofs.Common.{◌≡◌}
 use Rattle.mig_syntax.proofs.Answer.{took, failed}
 use Rattle.mig_syntax.proofs.jobs.answer_of.Goals as goal
 

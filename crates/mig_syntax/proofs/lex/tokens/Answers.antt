@@ -1,7 +1,6 @@
-use Rattle.std.proofs.Common.{◌≡◌, ℕ, ◌<◌, ◌≤◌, ◌-◌, List, [], ◌∷◌, ◌++◌, length, get_or, drop, take, refl, sym, ap, ◌∙◌, subst, arith, rules}
+use Rattle.std.proofs.Common.{◌≡◌, ℕ, ◌<◌, ◌≤◌, ◌-◌, List, [], ◌∷◌, length, get_or, drop, take, refl, arith}
 use Rattle.std.proofs.lemmas.List.{append-nil, take_rest}
-use Rattle.mig_syntax.specs.Tokens as spec
-use Rattle.mig_syntax.proofs.LexLemmas.{completes_more, Completes}
+use Rattle.mig_syntax.proofs.LexLemmas.{completes_more}
 use Rattle.mig_syntax.proofs.lex.tokens.Goals as goal
 
 empty : (rest : List ℕ) → length rest < 1 → rest ≡ []

@@ -1,4 +1,4 @@
-use Rattle.std.proofs.Common.{◌≡◌, [], ◌∷◌, sym, ap, ◌∙◌, refl}
+use Rattle.std.proofs.Common.{sym, ◌∙◌}
 use Rattle.std.proofs.lemmas.Result.{err_from_is_err_and}
 use Rattle.mig_syntax.proofs.Loop.{goes_on, stops, ends, is_done}
 use Rattle.mig_syntax.proofs.lists.more_of.Goals as goal

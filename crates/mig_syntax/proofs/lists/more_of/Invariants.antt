@@ -1,4 +1,4 @@
-use Rattle.std.proofs.Common.{◌≡◌, [], ◌∷◌, ◌-◌, ◌+◌, length}
+use Rattle.std.proofs.Common.{◌≡◌, ◌-◌, ◌+◌, length}
 use Rattle.mig_syntax.specs.Parts.{count_on}
 use Rattle.mig_syntax.specs.Reading.{with_front, most_at}
 use Rattle.mig_syntax.proofs.lists.more_of.Given as goal

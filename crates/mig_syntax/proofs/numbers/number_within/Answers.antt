@@ -1,4 +1,4 @@
-use Rattle.std.proofs.Common.{◌≡◌, ℕ, ◌+◌, ◌-◌, ◌*◌, ◌<◌, length, slice_index_or, sym, ap, ◌∙◌, arith}
+use Rattle.std.proofs.Common.{◌+◌, ◌-◌, ◌*◌, ◌<◌, slice_index_or, arith}
 use Rattle.mig_syntax.proofs.Digits.{is_past}
 use Rattle.mig_syntax.proofs.numbers.number_within.Goals as goal
 

@@ -1,4 +1,4 @@
-use Rattle.std.proofs.Common.{◌≡◌, ℕ, ◌≤◌, drop}
+use Rattle.std.proofs.Common.{◌≡◌, ◌≤◌, drop}
 use Rattle.mig_syntax.specs.Numbers as spec
 use Rattle.mig_syntax.proofs.numbers.number_within.Given as goal
 
