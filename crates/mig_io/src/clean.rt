@@ -1,5 +1,5 @@
 // Files and a sink that never fail.
-ghost use Rattle.std.specs.Prelude.{◌≡◌, ℕ, List, [], Some, None, OnOk, OnErr, unwrap_or};
+ghost use Rattle.std.specs.Prelude.{◌≡◌, ℕ, List, [], Some, None, Ok, length, OnOk, OnErr, unwrap_or};
 ghost use Rattle.mig_io.specs.Told.{HoldsToo};
 
 use crate::asked::Asked;
@@ -75,7 +75,9 @@ impl Sink for CleanSink {
 
     ghost faults = { λ _. 0 };
 
-    fn put(&mut self, piece: &[u8]) -> Result<usize, SinkFault> {
+    fn put(&mut self, piece: &[u8]) -> Result<usize, SinkFault>
+        ensures whole { result ≡ Ok (length piece.now) }
+    {
         Ok(piece.len())
     }
 }
