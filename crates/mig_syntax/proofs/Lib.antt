@@ -15,3 +15,4 @@ pub mod StatementParts
 pub mod Steps
 pub mod TokenParts
 pub mod Whole
+pub mod OneJob

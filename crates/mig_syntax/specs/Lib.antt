@@ -2,6 +2,7 @@ pub mod Printing
 pub mod Bytes
 pub mod Class
 pub mod Given
+pub mod Job
 pub mod Marked
 pub mod Naming
 pub mod Numbers
