@@ -7,6 +7,8 @@ mod jobs;
 mod programs;
 mod seq;
 mod tables;
+#[cfg(test)]
+mod tests;
 mod values;
 
 pub use exact::{Exact, same_text};

@@ -1,0 +1,4 @@
+pub mod Ended
+pub mod Lists
+pub mod Planned
+pub mod Putting
