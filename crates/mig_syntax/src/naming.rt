@@ -15,6 +15,9 @@ use mig_schema::{
 };
 use std::alloc::{AllocError, Global};
 
+#[cfg(test)]
+mod tests;
+
 /// The number that stands for a name which is not found.
 const NOWHERE: u32 = u32::MAX;
 
