@@ -17,6 +17,7 @@ abbrev pub bare : List Marked → List Token
 bare [] = []
 bare (m ∷ ms) = m.0 ∷ bare ms
 
+-- the first token, where there is one
 abbrev pub head : List Token → Option Token
 head [] = None
 head (t ∷ ts) = Some t
@@ -26,5 +27,6 @@ abbrev pub is_at : (Token → Bool) → Option Token → Bool
 is_at p None = false
 is_at p (Some t) = p t
 
+-- whether the first token passes
 abbrev pub first_is : (Token → Bool) → List Token → Bool
 first_is p ts = is_at p (head ts)

@@ -4,26 +4,30 @@ use Rattle.mig_syntax.specs.declared.token.Token.{Token}
 use Rattle.mig_syntax.specs.declared.fault.Limit.{Limit}
 use Rattle.mig_syntax.specs.Marked.{first_is}
 
+-- what reading gives
 pub data Read (A : Type 0) : Type 0 where
   Took : A → List Token → Read A
   Wrong : (left : ℕ) → Read A
   Past : Limit → (left : ℕ) → Read A
 
+-- reading goes on behind what was read; a fault is kept
 infixl 10 ◌>>=◌
 abbrev pub ◌>>=◌ : {A B : Type 0} → Read A → (A × List Token → Read B) → Read B
 (Took x rest) >>= f = f (x, rest)
 (Wrong left) >>= f = Wrong left
 (Past w left) >>= f = Past w left
 
--- one token, where it reads as a value; the value may pass a limit
+-- a value that a token was read as; it may pass a limit
 abbrev pub judged : {A : Type 0} → A → Option Limit → Token → List Token → Read A
 judged x None t ts = Took x ts
 judged x (Some w) t ts = Past w (length (t ∷ ts))
 
+-- a token that was read as a value, or wasn't
 abbrev pub tried : {A : Type 0} → (A → Option Limit) → Option A → Token → List Token → Read A
 tried mark None t ts = Wrong (length (t ∷ ts))
 tried mark (Some x) t ts = judged x (mark x) t ts
 
+-- one token
 unfoldable pub token_at : {A : Type 0} → (Token → Option A) → (A → Option Limit) → List Token → Read A
 token_at reads mark [] = Wrong 0
 token_at reads mark (t ∷ ts) = tried mark (reads t) t ts
@@ -45,6 +49,7 @@ unfoldable pub most_at : {A S : Type 0} → (Token → Bool) → (S → List Tok
 most_at begins reads next zero s ts = Took [] ts
 most_at begins reads next (suc n) s ts = choice_at begins (bind_at (reads s) (λ x. bind_at (most_at begins reads next n (next s x)) (λ xs. give (x ∷ xs)))) (give []) ts
 
+-- items as long as one begins; there are no more items than tokens
 abbrev pub many_at : {A S : Type 0} → (Token → Bool) → (S → List Token → Read A) → (S → A → S) → S → List Token → Read (List A)
 many_at begins reads next s ts = most_at begins reads next (length ts) s ts
 

@@ -35,6 +35,7 @@ is_reserved w =
     || (bytes_eq w (codes "int") || (bytes_eq w (codes "text") || (bytes_eq w (codes "key") || (bytes_eq w (codes "fresh")
     || bytes_eq w (codes "hint"))))))))))))))))))))))))
 
+-- the word of a kind
 abbrev pub kind_word : Kind → List ℕ
 kind_word kind.Int = codes "int"
 kind_word kind.Text = codes "text"
@@ -70,12 +71,15 @@ weight_mark v = first_of (int_mark v) (cond (weight_of v == 0) (Some limit.Hint)
 
 -- ---- tokens
 
+-- a reserved word that passes no limit
 abbrev pub word : List ℕ → Marked
 word w = (Word w, None)
 
+-- a sign, which passes no limit
 abbrev pub sign : List ℕ → Marked
 sign s = (Sign s, None)
 
+-- a name that is not counted
 abbrev pub name : List ℕ → Marked
 name v = (Word v, name_mark v)
 

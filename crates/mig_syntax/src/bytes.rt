@@ -1,44 +1,52 @@
+// The bytes that tokens and gaps are made of.
 ghost use Rattle.std.specs.Prelude.{◌≡◌, ℕ, ◌+◌, ◌≤◌, length};
 ghost use Rattle.std.specs.List.{take_while};
 ghost use Rattle.mig_syntax.specs.Bytes as spec;
 
-pub fn is_digit(b: u8) -> bool
+/// 0 to 9.
+pub(crate) fn is_digit(b: u8) -> bool
     ensures { result ≡ spec.is_digit b }
 {
-    48 <= b && b <= 57
+    b'0' <= b && b <= b'9'
 }
 
-pub fn is_letter(b: u8) -> bool
+/// What a name begins with: a letter of ASCII or an underscore.
+pub(crate) fn is_letter(b: u8) -> bool
     ensures { result ≡ spec.is_letter b }
 {
-    97 <= b && b <= 122 || 65 <= b && b <= 90 || b == 95
+    b'a' <= b && b <= b'z' || b'A' <= b && b <= b'Z' || b == b'_'
 }
 
-pub fn is_name_byte(b: u8) -> bool
+/// What a name goes on with.
+pub(crate) fn is_name_byte(b: u8) -> bool
     ensures { result ≡ spec.is_name_byte b }
 {
     is_letter(b) || is_digit(b)
 }
 
-pub fn is_blank(b: u8) -> bool
+/// What stands between tokens beside comments.
+pub(crate) fn is_blank(b: u8) -> bool
     ensures { result ≡ spec.is_blank b }
 {
-    b == 32 || b == 9 || b == 13 || b == 10
+    matches!(b, b' ' | b'\t' | b'\r' | b'\n')
 }
 
-pub fn name_len(bytes: &[u8]) -> usize
+/// How many bytes at the front go on with a name.
+pub(crate) fn name_len(bytes: &[u8]) -> usize
     ensures { result ≡ length (take_while spec.is_name_byte bytes.now) }
 {
     bytes.iter().take_while(|b| is_name_byte(**b)).count()
 }
 
-pub fn digits_len(bytes: &[u8]) -> usize
+/// How many digits stand at the front.
+pub(crate) fn digits_len(bytes: &[u8]) -> usize
     ensures { result ≡ length (take_while spec.is_digit bytes.now) }
 {
     bytes.iter().take_while(|b| is_digit(**b)).count()
 }
 
-pub fn sign_len(first: u8, rest: &[u8]) -> usize
+/// How many bytes the longest sign at the front takes; 0 where there is none.
+pub(crate) fn sign_len(first: u8, rest: &[u8]) -> usize
     ensures value { result ≡ spec.sign_len first rest.now }
     ensures within { result ≤ length rest.now + 1 }
 {
@@ -61,17 +69,17 @@ pub fn sign_len(first: u8, rest: &[u8]) -> usize
 }
 
 /// What follows the blanks and comments at the front.
-pub fn after_gap(bytes: &[u8]) -> &[u8]
+pub(crate) fn after_gap(bytes: &[u8]) -> &[u8]
     ensures value { result.now ≡ spec.after_gap bytes.now }
     ensures no_longer { length result.now ≤ length bytes.now }
 {
     let mut in_comment = false;
     for (i, b) in bytes.iter().enumerate() {
         if in_comment {
-            if *b == 10 {
+            if *b == b'\n' {
                 in_comment = false;
             }
-        } else if *b == 35 {
+        } else if *b == b'#' {
             in_comment = true;
         } else if !is_blank(*b) {
             return &bytes[i..];

@@ -57,6 +57,7 @@ fn head_of(limit: Option<Limit>, tokens: &[Token]) -> Result<(Head, &[Token]), R
     }
 }
 
+/// A parameter, with `count` before it.
 #[tactic(auto, unfolding(crate::specs::Parts::param_at))]
 fn param_of(alloc: Global, count: usize, tokens: &[Token]) -> Result<(Param, &[Token]), ReadError>
     ensures { Gives (λ x. (x.0, x.1.now)) result (param_at count tokens.now) }

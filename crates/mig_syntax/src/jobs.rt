@@ -50,6 +50,7 @@ impl Item for HintTree {
     }
 }
 
+/// A whole job, up to the end of the text.
 #[tactic(auto, unfolding(crate::specs::Parts::job_at))]
 fn job_of(alloc: Global, tokens: &[Token]) -> Result<(JobTree, &[Token]), ReadError>
     ensures { Gives (λ x. (x.0, x.1.now)) result (job_at tokens.now) }
@@ -85,6 +86,7 @@ fn tokens_to_end(alloc: Global, bytes: &[u8]) -> Result<Vec<Token>, AllocError>
     }
 }
 
+/// The answer for a text, as one fact.
 fn answer_of(alloc: Global, bytes: &[u8]) -> Result<JobTree, ReadError>
     ensures { IsAnswer bytes.now result }
 {
@@ -95,7 +97,13 @@ fn answer_of(alloc: Global, bytes: &[u8]) -> Result<JobTree, ReadError>
     }
 }
 
-/// The job that the bytes of a text spell, in names and numbers as they are written.
+/// The job that a text spells, with its names and numbers as they are written.
+///
+/// The bytes are those of the whole text. `At` comes at the first token that no job has behind the tokens before it,
+/// and `Limit` at the first token that passes a limit, where it could go on; the earlier token decides, and at one token
+/// `At` comes first. Both say how many tokens are left there: the token itself, those behind it, and the end of the text
+/// as one. Columns of kind key are not counted. Nothing else is refused, but for want of memory: names may be unknown,
+/// or stand twice.
 pub fn read_tree(alloc: Global, bytes: &[u8]) -> Result<JobTree, ReadError>
     ensures found { IfOk result (λ t. IsTreeText bytes.now t) }
     ensures only { (t : JobTree) → IsTreeText bytes.now t → (result ≡ Ok t) ⊎ (result ≡ Err ReadError.Memory) }

@@ -1,3 +1,4 @@
+// The bytes of a text as tokens.
 ghost use Rattle.std.specs.Prelude.{◌≡◌, ℕ, ◌<◌, ◌≤◌, ◌∷◌, length, IfOk};
 ghost use Rattle.mig_syntax.specs.Bytes.{first_is, is_digit};
 ghost use Rattle.mig_syntax.specs.Class.{made};
@@ -9,7 +10,7 @@ use mig_schema::{Seq, Txt};
 use std::alloc::{AllocError, Global};
 
 /// Whether a digit is first.
-pub fn digit_first(bytes: &[u8]) -> bool
+fn digit_first(bytes: &[u8]) -> bool
     ensures { result ≡ first_is is_digit bytes.now }
 {
     match bytes {
@@ -26,6 +27,7 @@ enum Class {
     Sign,
 }
 
+/// A token of this class.
 fn token_of(class: Class, text: Txt) -> Token
     ensures { result ≡ made class text }
 {
@@ -74,8 +76,8 @@ fn first_token<'a>(
     }
 }
 
-/// All tokens of the bytes.
-pub fn tokens(alloc: Global, bytes: &[u8]) -> Result<Vec<Token>, AllocError>
+/// All tokens of the bytes, without the end.
+pub(crate) fn tokens(alloc: Global, bytes: &[u8]) -> Result<Vec<Token>, AllocError>
     ensures { IfOk result (λ v. spec.Lexes bytes.now v.items) }
 {
     let mut tokens = Vec::new(alloc);

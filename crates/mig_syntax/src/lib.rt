@@ -21,6 +21,8 @@ mod reading;
 mod schemas;
 mod selects;
 mod statements;
+#[cfg(test)]
+mod tests;
 mod token;
 mod tree;
 mod words;
@@ -36,6 +38,3 @@ pub use token::Token;
 pub use tree::{
     AssignTree, BodyTree, ColName, FunctionTree, HintTree, JobTree, SelectTree, StmtTree,
 };
-
-#[cfg(test)]
-mod tests;

@@ -22,13 +22,16 @@ pub trait Item: Drop {
     /// What the first tokens are read as, where so many items stand before.
     ghost reads: { ℕ → List Token → Read Self };
 
+    /// Whether one begins with this token.
     fn is_begun(token: &Token) -> bool
         ensures { result ≡ begun token.now };
 
+    /// The item at the front, with `count` before it, and the tokens behind it.
     fn read(alloc: Global, count: usize, tokens: &[Token]) -> Result<(Self, &[Token]), ReadError>
         ensures { Gives (λ x. (x.0, x.1.now)) result (reads count tokens.now) };
 }
 
+/// Whether an item begins here.
 fn begins<T: Item>(tokens: &[Token]) -> bool
     ensures { result ≡ first_is T.begun tokens.now }
 {

@@ -11,6 +11,7 @@ use crate::token::Token;
 use mig_schema::{Column, Seq, Table};
 use std::alloc::Global;
 
+/// A column, with `count` before it in its table.
 #[tactic(auto, unfolding(crate::specs::Parts::column_at))]
 fn column_of(alloc: Global, count: usize, tokens: &[Token]) -> Result<(Column, &[Token]), ReadError>
     ensures { Gives (λ x. (x.0, x.1.now)) result (column_at count tokens.now) }
@@ -42,6 +43,7 @@ impl Item for Column {
     }
 }
 
+/// Columns with commas between them: one or more.
 #[tactic(auto, unfolding(crate::specs::Reading::led_at))]
 fn columns_of(alloc: Global, tokens: &[Token]) -> Result<(Seq<Column>, &[Token]), ReadError>
     ensures { Gives (λ x. (x.0, x.1.now)) result (columns_at tokens.now) }

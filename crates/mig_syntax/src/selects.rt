@@ -13,6 +13,7 @@ use crate::tree::{ColName, SelectTree};
 use mig_schema::Seq;
 use std::alloc::Global;
 
+/// A selected column, with `count` before it.
 #[tactic(auto, unfolding(crate::specs::Parts::selected_at))]
 fn selected_of(
     alloc: Global,
@@ -45,6 +46,7 @@ impl Item for ColName {
     }
 }
 
+/// Selected columns with commas between them: one or more.
 #[tactic(auto, unfolding(crate::specs::Reading::led_at))]
 fn selecteds_of(alloc: Global, tokens: &[Token]) -> Result<(Seq<ColName>, &[Token]), ReadError>
     ensures { Gives (λ x. (x.0, x.1.now)) result (selecteds_at tokens.now) }

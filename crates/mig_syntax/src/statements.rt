@@ -13,6 +13,7 @@ use crate::tree::{AssignTree, StmtTree};
 use mig_schema::Seq;
 use std::alloc::Global;
 
+/// A column and its value.
 #[tactic(auto, unfolding(crate::specs::Parts::assign_at))]
 fn assign_of(alloc: Global, tokens: &[Token]) -> Result<(AssignTree, &[Token]), ReadError>
     ensures { Gives (λ x. (x.0, x.1.now)) result (assign_at tokens.now) }
@@ -44,6 +45,7 @@ impl Item for AssignTree {
     }
 }
 
+/// Columns and their values with commas between them: one or more.
 #[tactic(auto, unfolding(crate::specs::Reading::led_at))]
 fn assigns_of(alloc: Global, tokens: &[Token]) -> Result<(Seq<AssignTree>, &[Token]), ReadError>
     ensures { Gives (λ x. (x.0, x.1.now)) result (assigns_at tokens.now) }
