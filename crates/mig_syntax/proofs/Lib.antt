@@ -1,4 +1,3 @@
-pub mod PrintLemmas
 pub mod Answer
 pub mod Choice
 pub mod Closed
@@ -10,6 +9,7 @@ pub mod LexLemmas
 pub mod ListParts
 pub mod Loop
 pub mod Many
+pub mod PrintLemmas
 pub mod SchemaParts
 pub mod StatementParts
 pub mod Steps

@@ -1,4 +1,3 @@
-pub mod Printing
 pub mod Bytes
 pub mod Class
 pub mod Given
@@ -8,6 +7,7 @@ pub mod Naming
 pub mod Numbers
 pub mod Parts
 pub mod Places
+pub mod Printing
 pub mod Reading
 pub mod Shapes
 pub mod Spelling

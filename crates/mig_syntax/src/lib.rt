@@ -38,3 +38,8 @@ pub use token::Token;
 pub use tree::{
     AssignTree, BodyTree, ColName, FunctionTree, HintTree, JobTree, SelectTree, StmtTree,
 };
+
+#[cfg(test)]
+mod print_tests;
+#[cfg(test)]
+mod tests;
