@@ -1,7 +1,7 @@
 // Writes answers: the new program, the invariants and the certificate.
 ghost use Rattle.std.specs.Prelude.{◌≡◌, ◌++◌, IfOk, OnOk, codes};
 ghost use Rattle.std.specs.List.{flat_map};
-ghost use Rattle.mig_syntax.specs.Printing.{program_text};
+ghost use Rattle.mig_printing.specs.Printing.{program_text};
 ghost use Rattle.mig_certificate.specs.AnswerText.{line, part, invariant_text, claim_text, entry_text, pair_text, answer_text};
 
 use crate::print_invariants::put_invariants;
@@ -9,7 +9,7 @@ use crate::print_steps::put_steps;
 use crate::proofs::{Certificate, Claim, Entry, PairProof};
 use mig_algebra::Invariant;
 use mig_schema::{Job, Program, Seq, Txt};
-use mig_syntax::{put, put_number, put_program};
+use mig_printing::{put, put_number, put_program};
 use std::alloc::{AllocError, Global};
 
 #[tactic(auto, unfolding(crate::specs::AnswerText::line))]

@@ -5,7 +5,7 @@ ghost use Rattle.mig_certificate.specs.AnswerText.{schema_of, side_text, view_te
 
 use mig_algebra::{Invariant, View};
 use mig_schema::{ColId, Job, Schema, Side, Txt};
-use mig_syntax::{put, put_col, put_cols, put_join};
+use mig_printing::{put, put_col, put_cols, put_join};
 use std::alloc::AllocError;
 
 /// The schema of a side.

@@ -5,7 +5,7 @@ ghost use Rattle.mig_certificate.specs.AnswerText.{rule_text, path_text, place_t
 
 use mig_rules::{Rule, Step};
 use mig_schema::Txt;
-use mig_syntax::{put, put_number};
+use mig_printing::{put, put_number};
 use std::alloc::AllocError;
 
 /// The name of a rule.

@@ -9,7 +9,6 @@ pub mod LexLemmas
 pub mod ListParts
 pub mod Loop
 pub mod Many
-pub mod PrintLemmas
 pub mod SchemaParts
 pub mod StatementParts
 pub mod Steps

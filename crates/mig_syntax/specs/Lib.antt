@@ -7,7 +7,6 @@ pub mod Naming
 pub mod Numbers
 pub mod Parts
 pub mod Places
-pub mod Printing
 pub mod Reading
 pub mod Shapes
 pub mod Spelling

@@ -1,4 +1,4 @@
-//! The texts of jobs and programs: read, and written.
+//! The texts of jobs: read into trees of names, and then into jobs.
 #![tactic(auto)]
 
 mod bytes;
@@ -12,11 +12,6 @@ mod lists;
 mod naming;
 mod numbers;
 mod pieces;
-mod print;
-mod print_parts;
-#[cfg(test)]
-mod print_tests;
-mod print_words;
 mod reading;
 mod schemas;
 mod selects;
@@ -30,16 +25,8 @@ mod words;
 pub use fault::{Limit, ReadError, TextFault};
 pub use jobs::read_tree;
 pub use lex::tokens;
-pub use print::{print_program, put_program};
-pub use print_parts::{put_col, put_cols, put_join};
-pub use print_words::{put, put_number};
 pub use reading::read_job;
 pub use token::Token;
 pub use tree::{
     AssignTree, BodyTree, ColName, FunctionTree, HintTree, JobTree, SelectTree, StmtTree,
 };
-
-#[cfg(test)]
-mod print_tests;
-#[cfg(test)]
-mod tests;

@@ -1,8 +1,8 @@
 use Rattle.std.proofs.Common.{codes}
 use Rattle.std.proofs.lemmas.Result.{IfOk-equal}
-use Rattle.mig_syntax.specs.Printing.{join_text, values_text}
-use Rattle.mig_syntax.proofs.PrintLemmas.{behind_two}
-use Rattle.mig_syntax.proofs.print.put_insert.Goals as goal
+use Rattle.mig_printing.specs.Printing.{join_text, values_text}
+use Rattle.mig_printing.proofs.PrintLemmas.{behind_two}
+use Rattle.mig_printing.proofs.program.put_insert.Goals as goal
 
 pub returns : goal.returns
 returns c =

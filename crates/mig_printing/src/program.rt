@@ -1,10 +1,10 @@
 // Writes programs: statements, queries and functions.
 ghost use Rattle.std.specs.Prelude.{◌≡◌, ◌++◌, IfOk, OnOk};
 ghost use Rattle.std.specs.List.{flat_map};
-ghost use Rattle.mig_syntax.specs.Printing.{stmt_text, insert_text, values_text, query_text, line_text, body_text, sort_text, function_text, program_text};
+ghost use Rattle.mig_printing.specs.Printing.{stmt_text, insert_text, values_text, query_text, line_text, body_text, sort_text, function_text, program_text};
 
-use crate::print_parts::{put_col, put_cols, put_join, put_joined, put_scalar, put_where};
-use crate::print_words::{put, put_bytes};
+use crate::parts::{put_col, put_cols, put_join, put_joined, put_scalar, put_where};
+use crate::words::{put, put_bytes};
 use mig_schema::{Assign, Body, Function, Join, Param, Program, Query, Schema, Seq, Stmt, Txt};
 use std::alloc::{AllocError, Global};
 

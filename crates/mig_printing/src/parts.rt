@@ -3,9 +3,9 @@ ghost use Rattle.std.specs.Prelude.{◌≡◌, ◌++◌, List, ℕ, OnOk, codes}
 ghost use Rattle.std.specs.List.{flat_map, join_by};
 ghost use Rattle.mig_schema.specs.declared.tables.Schema.{Schema};
 ghost use Rattle.mig_schema.specs.declared.programs.Param.{Param};
-ghost use Rattle.mig_syntax.specs.Printing.{table_text, col_text, cols_text, param_text, scalar_text, item_text, cmp_text, case_text, is_always, where_text, joined_text, join_text, assign_text};
+ghost use Rattle.mig_printing.specs.Printing.{table_text, col_text, cols_text, param_text, scalar_text, item_text, cmp_text, case_text, is_always, where_text, joined_text, join_text, assign_text};
 
-use crate::print_words::{
+use crate::words::{
     column_name, name_of_param, put, put_bytes, put_int, put_kind, put_number, put_op, put_quoted,
     table_name,
 };

@@ -3,7 +3,7 @@ ghost use Rattle.std.specs.Prelude.{◌≡◌, ◌++◌, [], ◌∷◌, OnOk, de
 ghost use Rattle.std.specs.Fmt.{signed_decimal};
 ghost use Rattle.std.specs.List.{flat_map};
 ghost use Rattle.mig_schema.specs.Columns.{table_at, columns_of, column_at};
-ghost use Rattle.mig_syntax.specs.Printing.{escaped, quoted, op_text, kind_text, param_name};
+ghost use Rattle.mig_printing.specs.Printing.{escaped, quoted, op_text, kind_text, param_name};
 
 use itoa::Buffer;
 use mig_schema::{ColId, Column, Kind, Op, Param, Schema, Txt};
