@@ -24,9 +24,7 @@ mod words;
 
 pub use fault::{Limit, ReadError, TextFault};
 pub use jobs::read_tree;
-pub use lex::tokens;
 pub use reading::read_job;
-pub use token::Token;
 pub use tree::{
     AssignTree, BodyTree, ColName, FunctionTree, HintTree, JobTree, SelectTree, StmtTree,
 };
