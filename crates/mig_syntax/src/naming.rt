@@ -1,83 +1,21 @@
 // From names to numbers: the job that a tree of names says.
-ghost use Rattle.std.specs.Prelude.{◌≡◌, IfOk, [], map, position};
-ghost use Rattle.std.specs.List.{find};
-ghost use Rattle.std.specs.Option.{option_copied};
-ghost use Rattle.std.specs.Str.{bytes_eq};
+ghost use Rattle.std.specs.Prelude.{◌≡◌, IfOk, [], map};
 ghost use Rattle.mig_syntax.specs.Naming as spec;
 
+use crate::naming::places::{col_of, param_of, table_of};
 use crate::numbers::weight_of;
 use crate::tree::{
     AssignTree, BodyTree, ColName, FunctionTree, HintTree, JobTree, SelectTree, StmtTree,
 };
 use mig_schema::{
-    Assign, Body, ColId, Column, Cond, Exact, Function, Hint, Job, Join, Param, Program, Query,
-    Scalar, Schema, Seq, Stmt, Table, Txt, same_text,
+    Assign, Body, ColId, Cond, Exact, Function, Hint, Job, Join, Param, Program, Query, Scalar,
+    Schema, Seq, Stmt, Table, Txt,
 };
 use std::alloc::{AllocError, Global};
 
+mod places;
 #[cfg(test)]
 mod tests;
-
-/// The number that stands for a name which is not found.
-const NOWHERE: u32 = u32::MAX;
-
-/// An item's number from its place.
-fn number_at(place: Option<usize>) -> u32
-    ensures { result ≡ spec.number_at place }
-{
-    match place {
-        Some(n) if n < NOWHERE as usize => n as u32,
-        _ => NOWHERE,
-    }
-}
-
-/// Where the first table of this name stands.
-fn place_of_table(tables: &[Table], name: &Txt) -> Option<usize>
-    ensures { result ≡ position (λ t. bytes_eq t.name name.now) tables.now }
-{
-    tables.iter().position(|t| same_text(&t.name, name))
-}
-
-/// Where the first column of this name stands.
-fn place_of_column(columns: &[Column], name: &Txt) -> Option<usize>
-    ensures { result ≡ position (λ c. bytes_eq c.name name.now) columns.now }
-{
-    columns.iter().position(|c| same_text(&c.name, name))
-}
-
-/// Where the first parameter of this name stands.
-fn place_of_param(params: &[Param], name: &Txt) -> Option<usize>
-    ensures { result ≡ position (λ p. bytes_eq p.name name.now) params.now }
-{
-    params.iter().position(|p| same_text(&p.name, name))
-}
-
-/// The first table of this name.
-fn find_table<'a>(tables: &'a [Table], name: &Txt) -> Option<&'a Table>
-    ensures { option_copied result ≡ find (λ t. bytes_eq t.name name.now) tables.now }
-{
-    tables.iter().find(|t| same_text(&t.name, name))
-}
-
-/// The columns of the first table of this name; none where there is no such table.
-fn columns_of<'a>(tables: &'a [Table], name: &Txt) -> &'a [Column]
-    ensures { result.now ≡ spec.columns_of tables.now name.now }
-{
-    match find_table(tables, name) {
-        Some(table) => table.columns.as_slice(),
-        None => &[],
-    }
-}
-
-/// The numbers of a column.
-fn col_of(tables: &[Table], name: &ColName) -> ColId
-    ensures { result ≡ spec.col_of tables.now name.now }
-{
-    ColId {
-        table: number_at(place_of_table(tables, &name.table)),
-        column: number_at(place_of_column(columns_of(tables, &name.table), &name.column)),
-    }
-}
 
 /// A value for a column, by their numbers.
 fn assign_of(tables: &[Table], params: &[Param], assign: &AssignTree) -> Assign
@@ -85,7 +23,7 @@ fn assign_of(tables: &[Table], params: &[Param], assign: &AssignTree) -> Assign
 {
     Assign {
         column: col_of(tables, &assign.column),
-        value: Scalar::Param(number_at(place_of_param(params, &assign.value))),
+        value: Scalar::Param(param_of(params, &assign.value)),
     }
 }
 
@@ -109,7 +47,7 @@ fn join_of(alloc: Global, tables: &[Table], name: &Txt) -> Join
     ensures { result ≡ spec.join_of tables.now name.now }
 {
     Join {
-        first: number_at(place_of_table(tables, name)),
+        first: table_of(tables, name),
         more: Seq::new(alloc),
     }
 }
