@@ -119,10 +119,13 @@ job_is_typed = record {
   target = record { tables = no_table_twice (table (codes "person") (column (codes "id") kind.Int ∷ column (codes "nick") kind.Text ∷ [])); columns = no_new_twice; ends = refl; apart = refl; kinds = refl };
   program = record {
     once = no_function_twice;
-    functions =
-      ( record { params = no_param_twice; pieces = (record { tables = refl; columns = refl; once = refl; shape = refl; params = refl; joined = refl; kinds = refl; orders = refl; cover = refl }, tt) }
-      , ( record { params = λ k. refl; pieces = (record { tables = refl; columns = refl; once = refl; shape = refl; params = refl; joined = refl; kinds = refl; orders = refl; cover = refl }, tt) }
-      , tt ) );
+    functions = (
+      record { params = no_param_twice; pieces = (record { tables = refl; columns = refl; once = refl; shape = refl; params = refl; joined = refl; kinds = refl; orders = refl; cover = refl }, tt) },
+      (
+        record { params = λ k. refl; pieces = (record { tables = refl; columns = refl; once = refl; shape = refl; params = refl; joined = refl; kinds = refl; orders = refl; cover = refl }, tt) },
+        tt,
+      ),
+    );
   };
   hints = record { ends = refl; kinds = refl; once = no_hint_twice };
 }
