@@ -5,10 +5,9 @@ use mig_cli::desk;
 use mig_io::{RealFiles, RealSink};
 use mig_schema::{Seq, Word};
 use std::alloc::Global;
-use std::env;
-use std::io;
 use std::process::ExitCode;
 use std::rt::Runtime;
+use std::{env, io};
 
 /// The words of the command line, without the program's name.
 fn words_of<R: Runtime + Alloc<A = Global>>(rt: &R) -> io::Result<Vec<Word>> {
@@ -25,12 +24,6 @@ fn main(rt: HostRuntime) -> io::Result<ExitCode> {
     let mut files = RealFiles::new(rt.clone()?);
     let mut out = RealSink::new(rt.stdout());
     let mut err = RealSink::new(rt.stderr());
-    let status = desk(
-        rt.alloc(),
-        words.as_slice(),
-        &mut files,
-        &mut out,
-        &mut err,
-    );
+    let status = desk(rt.alloc(), words.as_slice(), &mut files, &mut out, &mut err);
     Ok(ExitCode::from(status))
 }

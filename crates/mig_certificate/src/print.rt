@@ -8,8 +8,8 @@ use crate::print_invariants::put_invariants;
 use crate::print_steps::put_steps;
 use crate::proofs::{Certificate, Claim, Entry, PairProof};
 use mig_algebra::Invariant;
-use mig_schema::{Job, Program, Seq, Txt};
 use mig_printing::{put, put_number, put_program};
+use mig_schema::{Job, Program, Seq, Txt};
 use std::alloc::{AllocError, Global};
 
 #[tactic(auto, unfolding(crate::specs::AnswerText::line))]

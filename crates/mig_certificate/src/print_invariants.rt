@@ -4,8 +4,8 @@ ghost use Rattle.std.specs.List.{flat_map};
 ghost use Rattle.mig_certificate.specs.AnswerText.{schema_of, side_text, view_text, columns_text, fact_text, invariant_text};
 
 use mig_algebra::{Invariant, View};
-use mig_schema::{ColId, Job, Schema, Side, Txt};
 use mig_printing::{put, put_col, put_cols, put_join};
+use mig_schema::{ColId, Job, Schema, Side, Txt};
 use std::alloc::AllocError;
 
 /// The schema of a side.

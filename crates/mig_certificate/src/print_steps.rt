@@ -3,9 +3,9 @@ ghost use Rattle.std.specs.Prelude.{◌≡◌, ◌++◌, OnOk, codes, decimal};
 ghost use Rattle.std.specs.List.{flat_map};
 ghost use Rattle.mig_certificate.specs.AnswerText.{rule_text, path_text, place_text, step_text};
 
+use mig_printing::{put, put_number};
 use mig_rules::{Rule, Step};
 use mig_schema::Txt;
-use mig_printing::{put, put_number};
 use std::alloc::AllocError;
 
 /// The name of a rule.

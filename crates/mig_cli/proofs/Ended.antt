@@ -1,5 +1,5 @@
 -- From a plan that was put, or cut short, to what the desk promises.
-use Rattle.std.proofs.Common.{◌≡◌, ◌≢◌, ℕ, List, [], Option, Some, ◌⊎◌, inl, inr, refl, sym, ◌∙◌, subst}
+use Rattle.std.proofs.Common.{◌≡◌, ◌≢◌, ℕ, List, [], Option, Some, ◌⊎◌, inl, inr, sym, ◌∙◌, subst}
 use Rattle.mig_io.specs.Counts.{Rose}
 use Rattle.mig_cli.specs.Desk as spec
 

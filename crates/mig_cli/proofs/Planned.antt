@@ -1,5 +1,5 @@
 -- From what a plan has to what it is for.
-use Rattle.std.proofs.Common.{◌≡◌, ◌≢◌, ℕ, ◌≤◌, ◌<◌, List, [], length, Result, Ok, Err, IfOk, Option, Some, None, ◌⊎◌, inl, inr, refl, sym, subst}
+use Rattle.std.proofs.Common.{◌≡◌, ◌≢◌, ℕ, ◌≤◌, List, [], length, Result, Ok, Err, IfOk, Option, Some, ◌⊎◌, inl, inr, subst}
 use Rattle.std.specs.declared.alloc.AllocError.{AllocError}
 use Rattle.mig_schema.specs.declared.jobs.Job.{Job}
 use Rattle.mig_syntax.specs.Job.{IsPlainJobText}

@@ -1,5 +1,5 @@
 -- The program that a job with one renamed table is migrated to, and the certificate of that migration.
-use Rattle.std.specs.Prelude.{ℕ, Option, List, [], ◌∷◌, map, find}
+use Rattle.std.specs.Prelude.{Option, List, [], ◌∷◌, map, find}
 use Rattle.std.specs.Option.{option_map_or}
 use Rattle.mig_schema.specs.Columns.{columns_in, same_col}
 use Rattle.mig_schema.specs.declared.tables.ColId.{ColId}
@@ -16,7 +16,6 @@ use Rattle.mig_schema.specs.declared.programs.Function.{Function}
 use Rattle.mig_schema.specs.declared.programs.Program.{Program}
 use Rattle.mig_schema.specs.declared.jobs.Hint.{Hint}
 use Rattle.mig_schema.specs.declared.jobs.Job.{Job}
-use Rattle.mig_meaning.specs.declared.relating.View.{View}
 use Rattle.mig_meaning.specs.declared.relating.Invariant.{Invariant}
 use Rattle.mig_meaning.specs.declared.relating.Invariant.TheVariants as invariant
 use Rattle.mig_rules.specs.declared.steps.Step.{Step}

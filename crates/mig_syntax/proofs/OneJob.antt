@@ -1,5 +1,5 @@
 -- From the tree of names that was read to the job.
-use Rattle.std.proofs.Common.{◌≡◌, ◌≢◌, ℕ, List, Result, Ok, Err, IfOk, IfErr, ◌⊎◌, inl, inr, refl, sym, ap, ◌∙◌, subst}
+use Rattle.std.proofs.Common.{◌≡◌, ◌≢◌, ℕ, List, Result, Ok, Err, IfOk, IfErr, ◌⊎◌, inl, inr, sym, ap, ◌∙◌, subst}
 use Rattle.mig_schema.specs.declared.jobs.Job.{Job}
 use Rattle.mig_schema.specs.Typed.{IsTyped}
 use Rattle.mig_schema.specs.Plain.{IsPlain}
@@ -8,7 +8,7 @@ use Rattle.mig_syntax.specs.declared.fault.TextFault.TheVariants as fault
 use Rattle.mig_syntax.specs.declared.fault.ReadError.{ReadError}
 use Rattle.mig_syntax.specs.declared.fault.ReadError.TheVariants as error
 use Rattle.mig_syntax.specs.declared.tree.JobTree.{JobTree}
-use Rattle.mig_syntax.specs.Job.{IsPlainJobText, IsRefusal}
+use Rattle.mig_syntax.specs.Job.{IsPlainJobText}
 use Rattle.mig_syntax.specs.Naming.{job_of}
 use Rattle.mig_syntax.specs.Texts.{IsTreeText}
 

@@ -1,4 +1,4 @@
-use Rattle.std.proofs.Common.{◌≡◌, ℕ, List, [], Result, Err, Option, Some, refl, ap, inr, ◌∙◌}
+use Rattle.std.proofs.Common.{ℕ, List, Result, Err, ap, inr, ◌∙◌}
 use Rattle.mig_io.specs.declared.files.FetchFault.{FetchFault}
 use Rattle.mig_cli.specs.Desk as spec
 use Rattle.mig_cli.proofs.Planned.{fetched}

@@ -1,4 +1,3 @@
-use Rattle.mig_cli.specs.Desk as spec
 use Rattle.mig_cli.proofs.Ended.{right, complete, under_way, short}
 use Rattle.mig_cli.proofs.top.desk.Goals as goal
 

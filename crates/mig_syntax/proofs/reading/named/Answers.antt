@@ -1,5 +1,4 @@
-use Rattle.std.proofs.Common.{◌≡◌, ◌⊎◌, inl, inr, Ok, Err, ap, rules}
-use Rattle.mig_syntax.specs.declared.fault.ReadError.{ReadError}
+use Rattle.std.proofs.Common.{◌≡◌}
 use Rattle.mig_syntax.specs.declared.fault.ReadError.TheVariants as error
 use Rattle.mig_syntax.proofs.OneJob.{same_tree, no_tree}
 use Rattle.mig_syntax.proofs.reading.named.Goals as goal
