@@ -1,0 +1,14 @@
+pub mod Bags
+pub mod Calls
+pub mod Conditions
+pub mod Effect
+pub mod Holds
+pub mod Keys
+pub mod Law
+pub mod Lists
+pub mod Renaming
+pub mod Rows
+pub mod Run
+pub mod States
+pub mod Values
+pub mod Worked

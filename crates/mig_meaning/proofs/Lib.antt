@@ -1,0 +1,10 @@
+pub mod Bags
+pub mod Injections
+pub mod Law
+pub mod Maps
+pub mod Parted
+pub mod Renamed
+pub mod StateLaw
+pub mod Supply
+pub mod Within
+pub mod Writing
