@@ -8,3 +8,4 @@ pub mod StateLaw
 pub mod Supply
 pub mod Within
 pub mod Writing
+pub mod TypedWrites

@@ -2,11 +2,13 @@
 #![tactic(auto)]
 
 mod calling;
+mod laws;
 mod relating;
 mod states;
 #[cfg(test)]
 mod tests;
 
 pub use calling::{Answer, Args, Calls, Invocation, Keys, Reply};
+pub use laws::{renamings_commute, states_stay};
 pub use relating::{Invariant, Invariants, View};
 pub use states::{Placed, Row, State};
