@@ -9,3 +9,4 @@ pub mod Supply
 pub mod Within
 pub mod Writing
 pub mod TypedWrites
+pub mod Steps

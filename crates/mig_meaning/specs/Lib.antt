@@ -10,5 +10,6 @@ pub mod Renaming
 pub mod Rows
 pub mod Run
 pub mod States
+pub mod Told
 pub mod Values
 pub mod Worked
