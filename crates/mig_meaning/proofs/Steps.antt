@@ -1,10 +1,16 @@
 -- One more item of a list in what a loop has made so far.
 use Rattle.std.proofs.Common.{◌≡◌, ℕ, zero, suc, ◌+◌, ◌<◌, List, [], ◌∷◌, ◌++◌, map, take, get_or, length, refl, sym, ap, ◌∙◌, arith, append_assoc}
-use Rattle.std.specs.Prelude.{flat_map, slice_get, Option, Some, None}
+use Rattle.std.specs.Prelude.{flat_map, slice_get, None}
 use Rattle.std.proofs.lemmas.List.{append-nil}
-use Rattle.mig_schema.specs.declared.values.Value.{Value}
 use Rattle.mig_schema.specs.declared.values.Value.TheVariants as value
+use Rattle.mig_schema.specs.declared.tables.Schema.{Schema}
+use Rattle.mig_schema.specs.declared.programs.Function.{Function}
+use Rattle.mig_schema.specs.declared.programs.Program.{Program}
 use Rattle.mig_schema.specs.Lists.{numbered}
+use Rattle.mig_meaning.specs.declared.states.State.{State}
+use Rattle.mig_meaning.specs.declared.calling.Invocation.{Invocation}
+use Rattle.mig_meaning.specs.Effect.{after, reply}
+use Rattle.mig_meaning.specs.Run.{no_function, Outcome, called}
 use Rattle.mig_meaning.specs.Values.{no_value}
 
 pub take-next : {X : Type 0} (xs : List X) (i : ℕ) (x : X) → i < length xs → x ≡ get_or xs i x → take (i + 1) xs ≡ take i xs ++ x ∷ []
@@ -43,3 +49,29 @@ pub key-past : (ks : List ℕ) (n : ℕ) → None ≡ slice_get ks n → no_valu
 key-past [] n h = refl
 key-past (k ∷ ks) zero h = cc
 key-past (k ∷ ks) (suc n) h = key-past ks n h
+
+-- the same, the item by its value
+pub numbered-step : {X Y : Type 0} (f : ℕ → X → Y) (xs : List X) (i : ℕ) (x : X) (y : Y) (old new : List Y) → i < length xs → x ≡ get_or xs i x → old ≡ numbered f 0 (take i xs) → y ≡ f i x → new ≡ old ++ y ∷ [] → new ≡ numbered f 0 (take (i + 1) xs)
+numbered-step f xs i x y old new l e o k n = numbered-next f xs i x old new l e o (n ∙ ap (λ z. old ++ z ∷ []) k)
+
+some-at : {X : Type 0} (xs : List X) (i : ℕ) → i < length xs → (x : X) × (x ≡ get_or xs i x)
+some-at [] i l = absurd (omega arith)
+some-at (x ∷ xs) zero l = (x, refl)
+some-at (x ∷ xs) (suc i) l = some-at xs i (omega (arith, l))
+
+-- one more item that is made of its number alone
+pub numbers-step : {X Y : Type 0} (f : ℕ → Y) (xs : List X) (i : ℕ) (y : Y) (old new : List Y) → i < length xs → old ≡ numbered (λ n (x : X). f n) 0 (take i xs) → y ≡ f i → new ≡ old ++ y ∷ [] → new ≡ numbered (λ n (x : X). f n) 0 (take (i + 1) xs)
+numbers-step {X} f xs i y old new l o k n = let s = some-at xs i l in numbered-step (λ m (x : X). f m) xs i s.0 y old new l s.1 o k n
+
+-- ---- calls
+
+no_function-past : (fs : List Function) (n : ℕ) → None ≡ slice_get fs n → no_function ≡ get_or fs n no_function
+no_function-past [] n h = refl
+no_function-past (f ∷ fs) zero h = cc
+no_function-past (f ∷ fs) (suc n) h = no_function-past fs n h
+
+-- a call of a function that is not there does nothing
+pub called-past : (schema : Schema) (p : Program) (i : Invocation) (keys : List ℕ) (s t : State) → None ≡ slice_get p.functions i.function → t ≡ s → ◌≡◌ {A = Outcome} (record { state = t; reply = None }) (called schema p i keys s)
+called-past schema p i keys s t h e =
+    ap (λ x. record { state = x; reply = None }) e
+    ∙ ap (λ (f : Function). record { state = after schema (record { args = i.args.values; keys = keys }) f.body s; reply = reply (record { args = i.args.values; keys = keys }) f.body s }) (no_function-past p.functions i.function h)

@@ -1,8 +1,8 @@
 -- Typed statements write values of their columns' kinds.
-use Rattle.std.proofs.Common.{◌≡◌, ℕ, zero, suc, ◌+◌, ◌<◌, Bool, true, false, cond, not, ◌&&◌, ◌||◌, List, [], ◌∷◌, ◌++◌, map, length, refl, sym, ap, ap₂, ◌∙◌, arith, inl, inr, ◌⊎◌, subst, get_or}
+use Rattle.std.proofs.Common.{◌≡◌, ℕ, zero, suc, ◌+◌, ◌<◌, Bool, true, false, cond, not, ◌&&◌, List, [], ◌∷◌, ◌++◌, map, length, refl, sym, ap, ap₂, ◌∙◌, arith, inl, inr, ◌⊎◌, subst, get_or}
 use Rattle.std.specs.Prelude.{◌==◌, nat_lt, count_by}
 use Rattle.std.specs.List.{list_any, list_all, flat_map, AllByRecursion}
-use Rattle.std.proofs.lemmas.Bool.{cases_Bool, and_parts, and_from, or_parts, not-false, not-true, eqb-true, ltb-true, lt-ltb, both_ways}
+use Rattle.std.proofs.lemmas.Bool.{cases_Bool, and_parts, and_from, or_parts, not-false, eqb-true, ltb-true}
 use Rattle.std.proofs.lemmas.List.Recursion.{is_count_by}
 use Rattle.mig_schema.specs.declared.tables.ColId.{ColId}
 use Rattle.mig_schema.specs.declared.tables.Column.{Column}
@@ -24,16 +24,15 @@ use Rattle.mig_schema.specs.declared.values.Value.{Value}
 use Rattle.mig_schema.specs.declared.values.Value.TheVariants as value
 use Rattle.mig_schema.specs.Lists.{numbered}
 use Rattle.mig_schema.specs.Columns.{no_column, columns_of, columns_in, kind_of, same_col, same_kind}
-use Rattle.mig_schema.specs.Joins.{tables_of, leader, in_one_class, join_columns, joins_on, all_join_on, is_among}
-use Rattle.mig_schema.specs.Typed.{Piece, piece_of, pieces_of, scalars_of, scalar_kind, names_no_param, item_scalars, item_kind, values_for, IsTypedPiece, IsTypedFunction}
+use Rattle.mig_schema.specs.Joins.{tables_of, leader, join_columns, joins_on, all_join_on, is_among}
+use Rattle.mig_schema.specs.Typed.{Piece, piece_of, pieces_of, scalars_of, scalar_kind, names_no_param, values_for, IsTypedPiece, IsTypedFunction}
 use Rattle.mig_meaning.specs.declared.states.State.{State}
 use Rattle.mig_meaning.specs.Lists.{In, Each}
 use Rattle.mig_meaning.specs.Values.{no_value, of_kind}
 use Rattle.mig_meaning.specs.Conditions.{Given, scalar_value}
-use Rattle.mig_meaning.specs.Effect.{class_value, new_values, after}
+use Rattle.mig_meaning.specs.Effect.{class_value, after}
 use Rattle.mig_meaning.specs.Calls.{fit, IsGivenTo}
 use Rattle.mig_meaning.specs.States.{row_fits, label_fits, labels_fit, IsState}
-use Rattle.mig_meaning.proofs.Within.{each-weaker}
 use Rattle.mig_meaning.proofs.Writing.{SetFits, WritesKinds, BodyWritesKinds}
 use Rattle.mig_meaning.proofs.StateLaw.{after-state}
 

@@ -1,5 +1,5 @@
 -- Keys written as others.
-use Rattle.std.specs.Prelude.{ℕ, ◌==◌, cond, List, [], ◌∷◌, map, Option, Some, None}
+use Rattle.std.specs.Prelude.{ℕ, ◌==◌, cond, List, ◌∷◌, map, Option, Some, None}
 use Rattle.mig_schema.specs.declared.values.Value.{Value}
 use Rattle.mig_schema.specs.declared.values.Value.TheVariants as value
 use Rattle.mig_meaning.specs.declared.states.Placed.{Placed}

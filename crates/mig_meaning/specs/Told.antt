@@ -3,9 +3,11 @@ use Rattle.std.specs.Prelude.{List, map, Option, Some, None}
 use Rattle.mig_schema.specs.declared.values.Value.{Value}
 use Rattle.mig_meaning.specs.declared.states.Row.{Row}
 use Rattle.mig_meaning.specs.declared.conditions.Given as code
+use Rattle.mig_meaning.specs.declared.small.Outcome as small
 use Rattle.mig_meaning.specs.declared.calling.Reply.{Reply}
 use Rattle.mig_meaning.specs.declared.calling.Reply.TheVariants.{Done, Rows}
 use Rattle.mig_meaning.specs.Conditions.{Given}
+use Rattle.mig_meaning.specs.Run.{Outcome}
 
 -- the values of each row
 abbrev pub rows_told : List Row → List (List Value)
@@ -19,3 +21,7 @@ reply_told (Rows a) = Some (rows_told a.rows)
 -- what a call is given
 abbrev pub given_told : code.Given → Given
 given_told g = record { args = g.args.values; keys = g.keys.keys }
+
+-- what a call leaves and answers
+abbrev pub outcome_told : small.Outcome → Outcome
+outcome_told o = record { state = o.state; reply = reply_told o.reply }

@@ -3,18 +3,22 @@
 
 mod calling;
 mod conditions;
-mod effects;
+mod deleting;
 mod equal;
+mod inserting;
 mod laws;
 mod relating;
 mod rows;
+mod setting;
+mod small;
 mod states;
-mod values;
 #[cfg(test)]
 mod tests;
+mod values;
 
-pub use equal::same_bag;
 pub use calling::{Answer, Args, Calls, Invocation, Keys, Reply};
+pub use equal::same_bag;
 pub use laws::{renamings_commute, states_stay};
 pub use relating::{Invariant, Invariants, View};
+pub use small::{Outcome, run_small};
 pub use states::{Placed, Row, State};

@@ -188,7 +188,12 @@ pub(crate) fn join_rows(
     let tables = tables_of(alloc, join)?;
     let mut met = Vec::new(alloc);
     for row in choices(alloc, state, tables.as_slice())? {
-        if meets(alloc, tables.as_slice(), join.more.as_slice(), row.as_slice())? {
+        if meets(
+            alloc,
+            tables.as_slice(),
+            join.more.as_slice(),
+            row.as_slice(),
+        )? {
             met.push(row)?;
         }
     }
