@@ -9,6 +9,8 @@ mod inserting;
 mod laws;
 mod relating;
 mod rows;
+#[cfg(test)]
+mod run_tests;
 mod setting;
 mod small;
 mod states;
