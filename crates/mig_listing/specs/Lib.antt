@@ -1,0 +1,5 @@
+pub mod Choices
+pub mod Fronts
+pub mod Listing
+pub mod Orders
+pub mod Tests
