@@ -1,0 +1,7 @@
+pub mod AllTrees
+pub mod Covering
+pub mod OneAnswer
+pub mod Reach
+pub mod Steps
+pub mod Takes
+pub mod Within

@@ -1,0 +1,72 @@
+-- Tests of a set of tables, and what they say: its links, and the needed columns that it holds.
+use Rattle.std.proofs.Common.{◌≡◌, ℕ, ◌+◌, ◌-◌, ◌<◌, ◌≤◌, ◌⊎◌, Bool, true, false, cond, eqb, List, [], ◌∷◌, ◌++◌, length, map, Option, Some, None, append_assoc, refl, ap, sym, ◌∙◌, subst, inl, inr, arith, suc, zero}
+use Rattle.std.specs.Prelude.{slice_index_or, slice_get, filter, ◌&&◌, ◌||◌}
+use Rattle.std.specs.List.{list_any, list_all, flat_map}
+use Rattle.std.proofs.lemmas.Option.{same_Some, none-some}
+use Rattle.std.proofs.lemmas.Bool.{cases_Bool, cases_order, eq-eqb, eqb-true, or_cases, and_parts, and_from, false≢true}
+use Rattle.mig_listing.specs.Listing.{IsIn}
+use Rattle.mig_listing.specs.Choices.{numbers}
+use Rattle.mig_listing.proofs.Members.{in_filter, from_filter}
+use Rattle.mig_listing.proofs.Choices.{in_numbers}
+use Rattle.mig_schema.specs.Joins.{is_among}
+use Rattle.mig_schema.specs.declared.tables.ColId.{ColId}
+use Rattle.mig_schema.specs.declared.tables.Link.{Link}
+use Rattle.mig_schema.specs.declared.tables.Schema.{Schema}
+use Rattle.mig_schema.specs.declared.programs.Join.{Join}
+use Rattle.mig_schema.specs.declared.programs.Joined.{Joined}
+use Rattle.mig_trees.specs.Trees.{IsWithin, Serves}
+use Rattle.mig_trees.specs.Inside.{has_ends_in, is_inside, inside, has_one, serves}
+use Rattle.mig_trees.proofs.Reach.{cases_option, among_to, among_from, or_left, or_right}
+
+-- a number that has an item is below the length
+pub slice_get_known : {A : Type 0} (xs : List A) (n : ℕ) (x : A) → slice_get xs n ≡ Some x → n < length xs
+slice_get_known [] n x e = absurd (none-some x e)
+slice_get_known (y ∷ xs) zero x e = omega arith
+slice_get_known (y ∷ xs) (suc n) x e = let h = slice_get_known xs n x e in omega (arith, h)
+
+-- list_all, both ways
+pub all_to : {A : Type 0} (p : A → Bool) (xs : List A) (x : A) → list_all p xs ≡ true → IsIn x xs → p x ≡ true
+all_to p [] x e i = absurd i
+all_to p (y ∷ xs) x e i = let parts = and_parts _ _ e in elim i [ inl same ↦ ap p same ∙ parts.0 | inr j ↦ all_to p xs x parts.1 j ]
+
+pub all_from : {A : Type 0} (p : A → Bool) (xs : List A) → ((x : A) → IsIn x xs → p x ≡ true) → list_all p xs ≡ true
+all_from p [] h = refl
+all_from p (y ∷ xs) h = and_from _ _ (h y (inl refl)) (all_from p xs (λ x i. h x (inr i)))
+
+-- list_any, both ways
+pub any_to : {A : Type 0} (p : A → Bool) (xs : List A) → list_any p xs ≡ true → (x : A) × IsIn x xs × (p x ≡ true)
+any_to p [] e = absurd (false≢true e)
+any_to p (y ∷ xs) e = elim (or_cases _ _ e) [
+  | inl h ↦ (y, inl refl, h)
+  | inr h ↦ let rest = any_to p xs h in (rest.0, inr rest.1, rest.2)
+]
+
+pub any_from : {A : Type 0} (p : A → Bool) (xs : List A) (x : A) → IsIn x xs → p x ≡ true → list_any p xs ≡ true
+any_from p [] x i e = absurd i
+any_from p (y ∷ xs) x i e = elim i [
+  | inl same ↦ or_left (p y) (list_any p xs) (ap p (sym same) ∙ e)
+  | inr j ↦ or_right (p y) (list_any p xs) (any_from p xs x j e)
+]
+
+-- the links inside are those with both ends in the tables
+pub inside_to : (schema : Schema) (tables : List ℕ) (n : ℕ) → IsIn n (inside schema tables) → IsWithin schema tables n
+inside_to schema tables n i =
+    let test : has_ends_in tables (slice_get schema.links n) ≡ true = (in_filter (is_inside schema tables) (numbers (length schema.links)) n i).1 in
+    elim (cases_option (slice_get schema.links n)) [
+      | inl none ↦ absurd (false≢true (sym (ap (has_ends_in tables) none) ∙ test))
+      | inr some ↦
+          let parts = and_parts _ _ (sym (ap (has_ends_in tables) some.1) ∙ test) in
+          (some.0, some.1, among_to (some.0).left.table tables parts.0, among_to (some.0).right.table tables parts.1)
+    ]
+
+pub inside_from : (schema : Schema) (tables : List ℕ) (n : ℕ) → IsWithin schema tables n → IsIn n (inside schema tables)
+inside_from schema tables n w = from_filter (is_inside schema tables) (numbers (length schema.links)) n
+    (in_numbers (length schema.links) n (slice_get_known schema.links n w.0 w.1))
+    (ap (has_ends_in tables) w.1 ∙ and_from _ _ (among_from (w.0).left.table tables w.2) (among_from (w.0).right.table tables w.3))
+
+-- the test of a need is right, both ways
+pub serves_to : (need : List (List ColId)) (tables : List ℕ) → serves need tables ≡ true → Serves need tables
+serves_to need tables e = λ set i. let one = any_to (λ (c : ColId). is_among c.table tables) set (all_to (has_one tables) need set e i) in (one.0, one.1, among_to (one.0).table tables one.2)
+
+pub serves_from : (need : List (List ColId)) (tables : List ℕ) → Serves need tables → serves need tables ≡ true
+serves_from need tables h = all_from (has_one tables) need (λ set i. let one = h set i in any_from (λ (c : ColId). is_among c.table tables) set one.0 one.1 (among_from (one.0).table tables one.2))

@@ -1,0 +1,9 @@
+use Rattle.std.proofs.Common.{◌≡◌, ◌-◌, ◌++◌, ◌∷◌, [], take, drop, map, length}
+use Rattle.std.specs.Prelude.{filter}
+use Rattle.std.specs.List.{flat_map}
+use Rattle.mig_trees.specs.Making as spec
+use Rattle.mig_trees.specs.Joining as join
+use Rattle.mig_trees.proofs.listing.trees.Given as goal
+
+abbrev pub invariant-loop-count : goal.invariant-loop-count
+invariant-loop-count l = l.list.items ≡ map (join.written l.schema) (spec.trees_below l.schema l.need.sets l.count)

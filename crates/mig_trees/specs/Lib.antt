@@ -1,0 +1,6 @@
+pub mod Answer
+pub mod Inside
+pub mod Joining
+pub mod Making
+pub mod Trees
+pub mod Written

@@ -1,0 +1,13 @@
+//! The link trees of a schema: sets of tables with as many links less one, which connect them, written as joins.
+#![tactic(auto)]
+
+mod choosing;
+mod inside;
+mod laws;
+mod listing;
+mod lists;
+mod writing;
+
+pub use laws::one_answer;
+pub use listing::trees;
+pub use lists::{ColSets, TreeList};
