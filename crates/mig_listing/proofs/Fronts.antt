@@ -1,5 +1,5 @@
 -- The list of all that P holds of grows by its next item, from nothing to the whole.
-use Rattle.std.proofs.Common.{◌≡◌, ◌+◌, ◌⊎◌, List, [], ◌∷◌, ◌++◌, refl, ap, sym, ◌∙◌, subst, inl, inr}
+use Rattle.std.proofs.Common.{◌≡◌, ◌⊎◌, List, [], ◌∷◌, ◌++◌, refl, ap, sym, ◌∙◌, subst, inl, inr}
 use Rattle.mig_listing.specs.Fronts.{IsFront, IsNext}
 use Rattle.mig_listing.specs.Listing.{IsIn, Rises, IsListOf}
 use Rattle.mig_listing.specs.Orders.{IsOrder, IsTotalOn}

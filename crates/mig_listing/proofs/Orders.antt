@@ -1,7 +1,6 @@
 -- Orders made of orders are orders, and of two different ones one stands first where the parts say so.
-use Rattle.std.proofs.Common.{◌≡◌, ℕ, ◌+◌, ◌⊎◌, Bool, true, false, List, [], ◌∷◌, ◌++◌, length, refl, ap, sym, ◌∙◌, subst, inl, inr, arith}
+use Rattle.std.proofs.Common.{◌≡◌, ℕ, ◌⊎◌, Bool, true, false, List, [], ◌∷◌, ◌++◌, length, refl, ap, sym, ◌∙◌, subst, inl, inr, arith}
 use Rattle.std.proofs.lemmas.Bool.{false≢true}
-use Rattle.mig_listing.specs.Choices.{numbers}
 use Rattle.mig_listing.specs.Orders.{IsOrder, IsTotalOn, Less, TrueFirst, Lex, FirstBy}
 
 -- numbers by size

@@ -1,5 +1,5 @@
 -- Lists made of rising lists, and when they rise.
-use Rattle.std.proofs.Common.{◌+◌, Bool, List, [], ◌∷◌, ◌++◌, map, refl, sym, subst, inl, inr}
+use Rattle.std.proofs.Common.{Bool, List, [], ◌∷◌, ◌++◌, map, refl, sym, subst, inl, inr}
 use Rattle.std.specs.Prelude.{filter}
 use Rattle.std.specs.List.{flat_map}
 use Rattle.std.proofs.lemmas.Bool.{cases_Bool}

@@ -10,35 +10,26 @@ ghost use Rattle.mig_listing.specs.Tests.{Passes, Precedes};
 
 /// There is one list of all that a test accepts, in an order.
 pub fn one_listing<T>()
-    ensures one {
-        (test : T → Bool) (before : T → T → Bool) (xs ys : List T)
+    ensures one { (test : T → Bool) (before : T → T → Bool) (xs ys : List T)
         → IsOrder (Precedes before)
         → IsListOf (Passes test) (Precedes before) xs
         → IsListOf (Passes test) (Precedes before) ys
-        → xs ≡ ys
-    }
-{
-}
+        → xs ≡ ys }
+{}
 
 /// That list begins with each of its fronts and the front's next item. So one who finds the next item k times has its first k items.
 pub fn next_of_listing<T>()
-    ensures next {
-        (test : T → Bool) (before : T → T → Bool) (all xs : List T) (m : T)
+    ensures next { (test : T → Bool) (before : T → T → Bool) (all xs : List T) (m : T)
         → IsOrder (Precedes before)
         → IsTotalOn (Passes test) (Precedes before)
         → IsListOf (Passes test) (Precedes before) all
         → IsFront (Passes test) (Precedes before) xs
         → IsNext (Passes test) (Precedes before) xs m
-        → (rest : List T) × (all ≡ (xs ++ m ∷ []) ++ rest)
-    }
-{
-}
+        → (rest : List T) × (all ≡ (xs ++ m ∷ []) ++ rest) }
+{}
 
 /// The choices of n of a rising pool are all sets of n of its numbers, in order.
 pub fn listing_of_choices()
-    ensures all {
-        (n : ℕ) (pool : List ℕ) → Rises Less pool
-        → IsListOf (IsChoice n pool) (Lex Less) (choices n pool)
-    }
-{
-}
+    ensures all { (n : ℕ) (pool : List ℕ) → Rises Less pool
+        → IsListOf (IsChoice n pool) (Lex Less) (choices n pool) }
+{}

@@ -1,5 +1,5 @@
 -- The lists that the functions build hold all link trees that serve a need, in order.
-use Rattle.std.proofs.Common.{◌≡◌, ℕ, ◌+◌, ◌<◌, true, List, length, map, refl, ap, sym, ◌∙◌, subst, inl, inr, arith}
+use Rattle.std.proofs.Common.{◌≡◌, ℕ, ◌+◌, ◌<◌, true, List, length, refl, ap, sym, ◌∙◌, subst, inl, inr, arith}
 use Rattle.std.specs.Prelude.{filter}
 use Rattle.mig_listing.specs.Listing.{IsListOf}
 use Rattle.mig_listing.specs.Orders.{Less, Lex}
@@ -9,7 +9,7 @@ use Rattle.mig_listing.proofs.Listings.{listed_as, listed_flat_map, listed_map, 
 use Rattle.mig_listing.proofs.Choices.{choices_listed, numbers_below, in_numbers, numbers_rise, listed_numbers}
 use Rattle.mig_schema.specs.declared.tables.ColId.{ColId}
 use Rattle.mig_schema.specs.declared.tables.Schema.{Schema}
-use Rattle.mig_trees.specs.Trees.{Tree, IsLinkTree, Serves, TreeBefore}
+use Rattle.mig_trees.specs.Trees.{Tree, TreeBefore}
 use Rattle.mig_trees.specs.Answer.{IsServing}
 use Rattle.mig_trees.specs.Inside.{is_inside, inside, serves}
 use Rattle.mig_trees.specs.Making.{tree_of, is_tree, trees_over, trees_of, trees_below}
@@ -68,8 +68,7 @@ sized_to schema need count t small h =
 pub sized_from : (schema : Schema) (need : List (List ColId)) (t : Tree) → IsServing schema need t → IsSized schema need (length t.links) t
 sized_from schema need t s =
     let is = s.0 in
-    let size = is.one_less in
-    (
+    let size = is.one_less in (
       t.tables,
       (record { rising = s.0.rising; sized = sym size; from = λ n i. in_numbers (length schema.tables) n (s.0.known n i) }, serves_from need t.tables s.1),
       (

@@ -1,18 +1,15 @@
 -- Links connect tables exactly where the join that is written takes all of the tables.
-use Rattle.std.proofs.Common.{◌≡◌, ℕ, ◌+◌, ◌-◌, ◌<◌, ◌≤◌, ◌⊎◌, Bool, true, false, cond, eqb, List, [], ◌∷◌, ◌++◌, length, map, Option, Some, None, append_assoc, refl, ap, sym, ◌∙◌, subst, inl, inr, arith, suc, zero}
-use Rattle.std.specs.Prelude.{slice_index_or, slice_get, filter, ◌&&◌, ◌||◌}
-use Rattle.std.specs.List.{list_any, list_all, flat_map}
-use Rattle.std.proofs.lemmas.Bool.{cases_Bool, cases_order, eq-eqb, eqb-true, or_cases, and_parts, and_from, false≢true}
+use Rattle.std.proofs.Common.{◌≡◌, ℕ, Bool, true, eqb, List, [], ◌∷◌, length, map, refl, ap, sym, ◌∙◌, inl, inr}
+use Rattle.std.specs.Prelude.{slice_index_or, ◌||◌}
+use Rattle.std.proofs.lemmas.Bool.{eqb-true, or_cases}
 use Rattle.mig_listing.specs.Listing.{IsIn}
 use Rattle.mig_schema.specs.Joins.{is_among}
-use Rattle.mig_schema.specs.declared.tables.ColId.{ColId}
-use Rattle.mig_schema.specs.declared.tables.Link.{Link}
 use Rattle.mig_schema.specs.declared.tables.Schema.{Schema}
 use Rattle.mig_schema.specs.declared.programs.Join.{Join}
 use Rattle.mig_schema.specs.declared.programs.Joined.{Joined}
 use Rattle.mig_trees.specs.Trees.{Connects, IsClosed}
 use Rattle.mig_trees.specs.Joining.{more_joined, written}
-use Rattle.mig_trees.specs.Making.{tree_of, is_taken, has_joined, covers, is_tree}
+use Rattle.mig_trees.specs.Making.{tree_of, is_taken, has_joined, is_tree}
 use Rattle.mig_trees.proofs.Within.{all_to, all_from, any_to}
 use Rattle.mig_trees.proofs.Reach.{among_from, joined_alike, closed_end, undone_within}
 

@@ -1,5 +1,5 @@
 -- A tree is written as one join, and there is one list of trees.
-use Rattle.std.proofs.Common.{◌≡◌, ℕ, ◌<◌, ◌⊎◌, List, [], ◌∷◌, ◌++◌, length, Some, ap, sym, refl, ◌∙◌, subst, inl, inr, arith}
+use Rattle.std.proofs.Common.{◌≡◌, ℕ, List, [], ◌∷◌, ◌++◌, length, ap, sym, refl, ◌∙◌, subst, inl, inr}
 use Rattle.std.specs.Prelude.{slice_index_or, slice_get}
 use Rattle.std.proofs.lemmas.Option.{same_Some}
 use Rattle.std.proofs.lemmas.Bool.{cases_order}
@@ -11,7 +11,7 @@ use Rattle.mig_schema.specs.declared.tables.Schema.{Schema}
 use Rattle.mig_schema.specs.declared.programs.Join.{Join}
 use Rattle.mig_schema.specs.declared.programs.Joined.{Joined}
 use Rattle.mig_trees.specs.Trees.{Tree, TreeBefore}
-use Rattle.mig_trees.specs.Written.{JoinsBy, IsNextJoined, AreJoined, IsWritten}
+use Rattle.mig_trees.specs.Written.{IsNextJoined, AreJoined, IsWritten}
 use Rattle.mig_trees.specs.Answer.{AreWritten, IsServing, AreTrees}
 use Rattle.mig_trees.specs.Joining.{joining_at}
 use Rattle.mig_trees.proofs.Takes.{by_number}

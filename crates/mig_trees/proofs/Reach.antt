@@ -1,7 +1,6 @@
 -- Which tables a join takes: all that the links connect to its first one.
-use Rattle.std.proofs.Common.{◌≡◌, ℕ, ◌+◌, ◌-◌, ◌<◌, ◌≤◌, ◌⊎◌, Bool, true, false, cond, eqb, List, [], ◌∷◌, ◌++◌, length, map, Option, Some, None, append_assoc, refl, ap, sym, ◌∙◌, subst, inl, inr, arith, suc, zero}
-use Rattle.std.specs.Prelude.{slice_index_or, slice_get, ◌&&◌, ◌||◌}
-use Rattle.std.specs.List.{list_any}
+use Rattle.std.proofs.Common.{◌≡◌, ℕ, ◌+◌, ◌≤◌, ◌⊎◌, Bool, true, false, cond, eqb, List, [], ◌∷◌, ◌++◌, length, map, Option, Some, None, append_assoc, refl, ap, sym, ◌∙◌, subst, inl, inr, arith, suc, zero}
+use Rattle.std.specs.Prelude.{slice_get, ◌&&◌, ◌||◌}
 use Rattle.std.proofs.lemmas.List.{append-nil}
 use Rattle.std.proofs.lemmas.Option.{same_Some, none-some}
 use Rattle.std.proofs.lemmas.Bool.{cases_Bool, eq-eqb, eqb-true, or_cases, and_parts, and_from, false≢true}
@@ -10,7 +9,6 @@ use Rattle.mig_listing.proofs.Members.{in_append_left, in_append_right, in_appen
 use Rattle.mig_schema.specs.Joins.{is_among}
 use Rattle.mig_schema.specs.declared.tables.Link.{Link}
 use Rattle.mig_schema.specs.declared.tables.Schema.{Schema}
-use Rattle.mig_schema.specs.declared.programs.Join.{Join}
 use Rattle.mig_schema.specs.declared.programs.Joined.{Joined}
 use Rattle.mig_trees.specs.Joining.{joining, joining_at, or_first, next_joined, more_joined}
 use Rattle.mig_trees.proofs.Steps.{more-none, more-zero, more-some}

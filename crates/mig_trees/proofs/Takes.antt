@@ -1,5 +1,5 @@
 -- The join that is written takes the least link that joins a table, again and again until none does.
-use Rattle.std.proofs.Common.{◌≡◌, ℕ, ◌+◌, ◌<◌, ◌≤◌, ◌⊎◌, Bool, true, false, List, [], ◌∷◌, ◌++◌, length, map, Option, Some, None, refl, ap, sym, ◌∙◌, subst, inl, inr, arith, suc, zero}
+use Rattle.std.proofs.Common.{◌≡◌, ℕ, ◌+◌, ◌<◌, ◌≤◌, false, List, [], ◌∷◌, ◌++◌, length, map, Some, refl, ap, sym, ◌∙◌, subst, inl, inr, arith, suc, zero}
 use Rattle.std.specs.Prelude.{slice_index_or, slice_get}
 use Rattle.std.proofs.lemmas.Option.{same_Some, none-some}
 use Rattle.std.proofs.lemmas.Bool.{cases_Bool, false≢true}
@@ -8,7 +8,6 @@ use Rattle.mig_listing.specs.Orders.{Less}
 use Rattle.mig_schema.specs.Joins.{is_among}
 use Rattle.mig_schema.specs.declared.tables.Link.{Link}
 use Rattle.mig_schema.specs.declared.tables.Schema.{Schema}
-use Rattle.mig_schema.specs.declared.programs.Join.{Join}
 use Rattle.mig_schema.specs.declared.programs.Joined.{Joined}
 use Rattle.mig_trees.specs.Trees.{Tree, IsLinkTree}
 use Rattle.mig_trees.specs.Written.{Joins, JoinsBy, IsNextJoined, AreJoined, IsWritten}
@@ -40,8 +39,8 @@ joins_to taken l j e = elim (cases_Bool (is_among l.left.table taken)) [
   ]
 ]
 
-pub joins_from_right : (taken : List ℕ) (l : Link) (j : Joined) → Joins l taken j → joining taken l ≡ Some j
-joins_from_right taken l j h = elim h [
+pub joins_back : (taken : List ℕ) (l : Link) (j : Joined) → Joins l taken j → joining taken l ≡ Some j
+joins_back taken l j h = elim h [
   | inl a ↦
       let t = among_from l.left.table taken a.0 in
       let f = not_among l.right.table taken a.1 in
@@ -54,7 +53,7 @@ joins_from_right taken l j h = elim h [
 
 -- the same of a link by its number
 pub by_number : (schema : Schema) (links taken : List ℕ) (j : Joined) (n : ℕ) → JoinsBy schema links taken j n → joining_at taken (slice_get schema.links n) ≡ Some j
-by_number schema links taken j n h = ap (joining_at taken) h.2 ∙ joins_from_right taken h.1 j h.3
+by_number schema links taken j n h = ap (joining_at taken) h.2 ∙ joins_back taken h.1 j h.3
 
 pub of_number : (schema : Schema) (links taken : List ℕ) (j : Joined) (n : ℕ) → IsIn n links → joining_at taken (slice_get schema.links n) ≡ Some j → JoinsBy schema links taken j n
 of_number schema links taken j n i e = elim (cases_option (slice_get schema.links n)) [
@@ -70,17 +69,23 @@ pub first_joined : (schema : Schema) (taken links : List ℕ) (j : Joined) → R
 first_joined schema taken [] j r e = absurd (none-some j e)
 first_joined schema taken (n ∷ ns) j r e = elim (cases_option (joining_at taken (slice_get schema.links n))) [
   | inl none ↦
-      let rest = first_joined schema taken ns j r.1 (subst (λ o. or_first o (next_joined schema taken ns) ≡ Some j) none e) in
-      (rest.0, (inr rest.1.0, rest.1.1), (λ m k i by small. elim i [
-        | inl same ↦ absurd (none-some k (sym none ∙ (ap (λ x. joining_at taken (slice_get schema.links x)) (sym same) ∙ by)))
-        | inr later ↦ rest.2 m k later by small
-      ]))
+      let rest = first_joined schema taken ns j r.1 (subst (λ o. or_first o (next_joined schema taken ns) ≡ Some j) none e) in (
+        rest.0,
+        (inr rest.1.0, rest.1.1),
+        (λ m k i by small. elim i [
+          | inl same ↦ absurd (none-some k (sym none ∙ (ap (λ x. joining_at taken (slice_get schema.links x)) (sym same) ∙ by)))
+          | inr later ↦ rest.2 m k later by small
+        ]),
+      )
   | inr some ↦
-      let is = subst (λ o. or_first o (next_joined schema taken ns) ≡ Some j) some.1 e in
-      (n, (inl refl, some.1 ∙ is), (λ m k i by small. elim i [
-        | inl same ↦ absurd (omega (arith, same, small))
-        | inr later ↦ let above = r.0 m later in absurd (omega (arith, above, small))
-      ]))
+      let is = subst (λ o. or_first o (next_joined schema taken ns) ≡ Some j) some.1 e in (
+        n,
+        (inl refl, some.1 ∙ is),
+        (λ m k i by small. elim i [
+          | inl same ↦ absurd (omega (arith, same, small))
+          | inr later ↦ let above = r.0 m later in absurd (omega (arith, above, small))
+        ]),
+      )
 ]
 
 pub next_is_least : (schema : Schema) (taken links : List ℕ) (j : Joined) → Rises Less links → next_joined schema taken links ≡ Some j → IsNextJoined schema links taken j

@@ -1,19 +1,16 @@
 -- Tests of a set of tables, and what they say: its links, and the needed columns that it holds.
-use Rattle.std.proofs.Common.{◌≡◌, ℕ, ◌+◌, ◌-◌, ◌<◌, ◌≤◌, ◌⊎◌, Bool, true, false, cond, eqb, List, [], ◌∷◌, ◌++◌, length, map, Option, Some, None, append_assoc, refl, ap, sym, ◌∙◌, subst, inl, inr, arith, suc, zero}
-use Rattle.std.specs.Prelude.{slice_index_or, slice_get, filter, ◌&&◌, ◌||◌}
-use Rattle.std.specs.List.{list_any, list_all, flat_map}
-use Rattle.std.proofs.lemmas.Option.{same_Some, none-some}
-use Rattle.std.proofs.lemmas.Bool.{cases_Bool, cases_order, eq-eqb, eqb-true, or_cases, and_parts, and_from, false≢true}
+use Rattle.std.proofs.Common.{◌≡◌, ℕ, ◌<◌, Bool, true, List, [], ◌∷◌, length, Some, refl, ap, sym, ◌∙◌, inl, inr, arith, suc, zero}
+use Rattle.std.specs.Prelude.{slice_get}
+use Rattle.std.specs.List.{list_any, list_all}
+use Rattle.std.proofs.lemmas.Option.{none-some}
+use Rattle.std.proofs.lemmas.Bool.{or_cases, and_parts, and_from, false≢true}
 use Rattle.mig_listing.specs.Listing.{IsIn}
 use Rattle.mig_listing.specs.Choices.{numbers}
 use Rattle.mig_listing.proofs.Members.{in_filter, from_filter}
 use Rattle.mig_listing.proofs.Choices.{in_numbers}
 use Rattle.mig_schema.specs.Joins.{is_among}
 use Rattle.mig_schema.specs.declared.tables.ColId.{ColId}
-use Rattle.mig_schema.specs.declared.tables.Link.{Link}
 use Rattle.mig_schema.specs.declared.tables.Schema.{Schema}
-use Rattle.mig_schema.specs.declared.programs.Join.{Join}
-use Rattle.mig_schema.specs.declared.programs.Joined.{Joined}
 use Rattle.mig_trees.specs.Trees.{IsWithin, Serves}
 use Rattle.mig_trees.specs.Inside.{has_ends_in, is_inside, inside, has_one, serves}
 use Rattle.mig_trees.proofs.Reach.{cases_option, among_to, among_from, or_left, or_right}

@@ -1,5 +1,5 @@
 -- The join that the functions write for tables and links, whether or not the links connect the tables.
-use Rattle.std.specs.Prelude.{ℕ, Bool, if◌then◌else◌, List, [], ◌∷◌, ◌++◌, Option, Some, None, length, slice_get, slice_index_or, zero, suc}
+use Rattle.std.specs.Prelude.{ℕ, if◌then◌else◌, List, [], ◌∷◌, ◌++◌, Option, Some, None, length, slice_get, slice_index_or, zero, suc}
 use Rattle.mig_schema.specs.Joins.{is_among}
 use Rattle.mig_schema.specs.declared.tables.Link.{Link}
 use Rattle.mig_schema.specs.declared.tables.Schema.{Schema}

@@ -25,11 +25,7 @@ fn is_inside(schema: &Schema, tables: &[u32], n: usize) -> bool
 }
 
 /// The links with both ends in the tables, by their numbers.
-pub(crate) fn inside(
-    alloc: Global,
-    schema: &Schema,
-    tables: &[u32],
-) -> Result<Vec<u32>, AllocError>
+pub(crate) fn inside(alloc: Global, schema: &Schema, tables: &[u32]) -> Result<Vec<u32>, AllocError>
     ensures { IfOk result (λ v. v.items ≡ spec.inside schema.now tables.now) }
 {
     let mut list = Vec::new(alloc);

@@ -7,9 +7,6 @@ ghost use Rattle.mig_trees.specs.Answer.{AreTrees};
 
 /// There is one list of the link trees that serve a need: what `AreTrees` asks determines the answer.
 pub fn one_answer()
-    ensures one {
-        (schema : SchemaValue) (need : List (List ColId)) (xs ys : List Join)
-        → AreTrees schema need xs → AreTrees schema need ys → xs ≡ ys
-    }
-{
-}
+    ensures one { (schema : SchemaValue) (need : List (List ColId)) (xs ys : List Join)
+        → AreTrees schema need xs → AreTrees schema need ys → xs ≡ ys }
+{}

@@ -6,6 +6,8 @@ mod inside;
 mod laws;
 mod listing;
 mod lists;
+#[cfg(test)]
+mod tests;
 mod writing;
 
 pub use laws::one_answer;

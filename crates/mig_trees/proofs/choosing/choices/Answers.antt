@@ -1,4 +1,4 @@
-use Rattle.std.proofs.Common.{◌≡◌, ◌∙◌, sym, add-one, ap, refl, rules}
+use Rattle.std.proofs.Common.{◌∙◌, add-one, ap, rules}
 use Rattle.std.specs.List.{flat_map}
 use Rattle.mig_listing.specs.Choices as spec
 use Rattle.mig_listing.proofs.Choices.{choices-zero, choices-suc}

@@ -1,6 +1,4 @@
-use Rattle.std.proofs.Common.{◌≡◌, ◌-◌, ◌++◌, ◌∷◌, [], take, drop, map, length}
-use Rattle.std.specs.Prelude.{filter}
-use Rattle.std.specs.List.{flat_map}
+use Rattle.std.proofs.Common.{◌≡◌}
 use Rattle.mig_listing.specs.Choices as spec
 use Rattle.mig_trees.proofs.choosing.numbers.Given as goal
 

@@ -1,6 +1,5 @@
-use Rattle.std.proofs.Common.{◌≡◌, ◌-◌, ◌++◌, ◌∷◌, [], take, drop, map, length}
+use Rattle.std.proofs.Common.{◌≡◌}
 use Rattle.std.specs.Prelude.{filter}
-use Rattle.std.specs.List.{flat_map}
 use Rattle.mig_listing.specs.Choices as spec
 use Rattle.mig_trees.specs.Inside as inside
 use Rattle.mig_trees.proofs.inside.inside.Given as goal

@@ -1,6 +1,4 @@
-use Rattle.std.proofs.Common.{◌≡◌, ◌-◌, ◌++◌, ◌∷◌, [], take, drop, map, length}
-use Rattle.std.specs.Prelude.{filter}
-use Rattle.std.specs.List.{flat_map}
+use Rattle.std.proofs.Common.{◌≡◌, map}
 use Rattle.mig_trees.specs.Making as spec
 use Rattle.mig_trees.specs.Joining as join
 use Rattle.mig_trees.proofs.listing.trees.Given as goal

@@ -1,4 +1,4 @@
-use Rattle.std.proofs.Common.{◌≡◌, ◌-◌, ◌+◌, ◌∙◌, ◌++◌, ◌∷◌, [], Some, None, sym, ap, refl, length, suc, arith}
+use Rattle.std.proofs.Common.{◌≡◌, ◌-◌, ◌+◌, ◌∙◌, Some, None, sym, ap, length, suc, arith}
 use Rattle.mig_trees.specs.Joining as spec
 use Rattle.mig_trees.proofs.Steps.{ends_none, ends_out, goes_on, written_is}
 use Rattle.mig_trees.proofs.writing.written.Goals as goal
