@@ -2,7 +2,7 @@
 #![tactic(auto)]
 
 use mig_cli::desk;
-use mig_io::{RealFiles, RealSink};
+use mig_io::{RealFiles, RealSink, emit};
 use mig_schema::{Seq, Word};
 use std::alloc::Global;
 use std::process::ExitCode;
@@ -19,11 +19,30 @@ fn words_of<R: Runtime + Alloc<A = Global>>(rt: &R) -> io::Result<Vec<Word>> {
     Ok(words)
 }
 
+/// Why there are no words: memory ran out, or one is not UTF-8.
+fn refusal_of(error: &io::Error) -> (u8, &'static str) {
+    if error.kind() == io::ErrorKind::OutOfMemory {
+        (8, "out of memory\n")
+    } else {
+        (1, "words: not built\n")
+    }
+}
+
 fn main(rt: HostRuntime) -> io::Result<ExitCode> {
-    let words = words_of(&rt)?;
-    let mut files = RealFiles::new(rt.clone()?);
     let mut out = RealSink::new(rt.stdout());
     let mut err = RealSink::new(rt.stderr());
-    let status = desk(rt.alloc(), words.as_slice(), &mut files, &mut out, &mut err);
+    let status = match words_of(&rt) {
+        Ok(words) => {
+            let mut files = RealFiles::new(rt.clone()?);
+            desk(rt.alloc(), words.as_slice(), &mut files, &mut out, &mut err)
+        }
+        Err(error) => {
+            let (status, line) = refusal_of(&error);
+            match emit(&mut err, line.as_bytes()) {
+                Ok(()) => status,
+                Err(_) => 7,
+            }
+        }
+    };
     Ok(ExitCode::from(status))
 }

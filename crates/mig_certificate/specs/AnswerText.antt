@@ -29,6 +29,7 @@ abbrev pub schema_of : Job → Side → Schema
 schema_of j Old = j.source
 schema_of j New = j.target
 
+-- the word of a side
 abbrev pub side_text : Side → List ℕ
 side_text Old = codes "old"
 side_text New = codes "new"

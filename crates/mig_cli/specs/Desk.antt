@@ -28,21 +28,27 @@ cap = 262144
 abbrev pub line : List ℕ → List ℕ
 line text = text ++ 10 ∷ []
 
+-- the line on words that are refused
 abbrev pub refused_words : List ℕ
 refused_words = line (codes "words: not built")
 
+-- the line on a file that could not be read
 abbrev pub cannot_read : List ℕ → List ℕ
 cannot_read file = file ++ line (codes ": cannot read")
 
+-- the line on a file that is too long
 abbrev pub too_long : List ℕ → List ℕ
 too_long file = file ++ line (codes ": longer than 262144 bytes")
 
+-- the line on a file that spells no plain job
 abbrev pub not_built : List ℕ → List ℕ
 not_built file = file ++ line (codes ":0:0: not built")
 
+-- the report of an answer
 abbrev pub found : List ℕ
 found = line (codes "found: 0 entries")
 
+-- the line on want of memory
 abbrev pub no_memory : List ℕ
 no_memory = line (codes "out of memory")
 

@@ -73,10 +73,12 @@ renamed_stmt job (Set column x join test) = Set column x join test
 abbrev pub renamed_query : Job → Query → Query
 renamed_query job q = record { columns = map (image job.hints) q.columns; join = one_table; cond = q.cond }
 
+-- the body over the new table
 abbrev pub renamed_body : Job → Body → Body
 renamed_body job (body.Update stmts) = body.Update (map (renamed_stmt job) stmts)
 renamed_body job (body.Query q) = body.Query (renamed_query job q)
 
+-- the function over the new table, with its name and its parameters
 abbrev pub renamed_function : Job → Function → Function
 renamed_function job f = record { name = f.name; params = f.params; body = renamed_body job f.body }
 
@@ -106,12 +108,20 @@ update_entry = record { claim = claim.Holds 0; source = unfolds ∷ folds ∷ []
 abbrev pub query_entry : Entry
 query_entry = record { claim = claim.Answers; source = folds ∷ []; target = [] }
 
+-- what is shown of a body
 abbrev pub renaming_entry : Body → Entry
 renaming_entry (body.Update stmts) = update_entry
 renaming_entry (body.Query q) = query_entry
 
+-- what is shown of a function
 abbrev pub renaming_pair : Function → PairProof
 renaming_pair f = record { name = f.name; entries = renaming_entry f.body ∷ [] }
 
+-- the view, where there is a function that it is for
+abbrev pub renaming_views : Job → List Function → List Invariant
+renaming_views job [] = []
+renaming_views job (f ∷ fs) = renaming_view job ∷ []
+
+-- the certificate of the renamed program
 abbrev pub renaming_certificate : Job → Certificate
-renaming_certificate job = record { invariants = record { list = renaming_view job ∷ [] }; pairs = map renaming_pair job.program.functions }
+renaming_certificate job = record { invariants = record { list = renaming_views job job.program.functions }; pairs = map renaming_pair job.program.functions }

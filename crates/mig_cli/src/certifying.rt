@@ -105,15 +105,34 @@ fn renaming_pairs(alloc: Global, functions: &[Function]) -> Result<Seq<PairProof
     Ok(pairs)
 }
 
-/// The certificate of the renamed program: one view, which each update keeps and by which each query answers alike.
+/// The view, where there is a function that it is for.
+fn renaming_views(
+    alloc: Global,
+    job: &Job,
+    functions: &[Function],
+) -> Result<Seq<Invariant>, AllocError>
+    ensures { IfOk result (λ list. list ≡ spec.renaming_views job.now functions.now) }
+{
+    let mut list = Seq::new(alloc);
+    match functions {
+        [] => Ok(list),
+        [_, ..] => {
+            list.push(renaming_view(alloc, job)?)?;
+            Ok(list)
+        }
+    }
+}
+
+/// The certificate of the renamed program: one view, which each update keeps and by which each query answers alike;
+/// none where there is no function.
 ///
 /// It is meant for plain jobs. Its only error is want of memory, or that a table has 2^32 columns.
 pub fn certified(alloc: Global, job: &Job) -> Result<Certificate, AllocError>
     ensures { IfOk result (λ c. c ≡ spec.renaming_certificate job.now) }
 {
-    let mut list = Seq::new(alloc);
-    list.push(renaming_view(alloc, job)?)?;
-    let pairs = renaming_pairs(alloc, job.program.functions.as_slice())?;
+    let functions = job.program.functions.as_slice();
+    let list = renaming_views(alloc, job, functions)?;
+    let pairs = renaming_pairs(alloc, functions)?;
     Ok(Certificate {
         invariants: Invariants { list },
         pairs,

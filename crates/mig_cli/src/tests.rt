@@ -14,8 +14,80 @@ const PROGRAM: &str =
 
 const HINTS: &str = "hints\nhint user.uid -> person.id 100;\nhint user.nick -> person.nick 100;\n";
 
+const NO_FUNCTIONS: &[u8] = b"answer 1\nprogram\ninvariants\ncertificate\nend\n";
+
 const ANSWER: &[u8] =
     b"answer 1\nprogram\nupdate add(id: int, nick: text) {\n  insert into person { person.id = id, person.nick = nick };\n}\nquery all() {\n  select person.id, person.nick from person;\n}\ninvariants\nview user { user.uid, user.nick } is person { person.id, person.nick };\ncertificate\npair add\nholds 0\nold\nstage 0 - 0\nfold 0 - 0 0\nnew\nstage 0 - 0\npair all\nanswers\nold\nfold 0 - 0 0\nnew\nend\n";
+
+/// Texts in four parts, none of which is a typed plain job.
+const NOT_PLAIN: [[&str; 4]; 11] = [
+    [
+        "old\ntable user { uid: int, nick: text }\ntable user { uid: int, nick: text }\n",
+        NEW,
+        PROGRAM,
+        HINTS,
+    ],
+    [
+        "old\ntable user { uid: int, nick: key }\n",
+        NEW,
+        PROGRAM,
+        HINTS,
+    ],
+    [
+        "old\ntable user { uid: int, nick: text }\nlink user.uid = user.uid;\n",
+        NEW,
+        PROGRAM,
+        HINTS,
+    ],
+    [
+        OLD,
+        "new\ntable user { id: int, nick: text }\n",
+        PROGRAM,
+        "hints\nhint user.uid -> user.id 100;\nhint user.nick -> user.nick 100;\n",
+    ],
+    [
+        OLD,
+        NEW,
+        "program\nquery all() {\n  select user.uid from user where user.uid = 1;\n}\n",
+        HINTS,
+    ],
+    [
+        OLD,
+        NEW,
+        "program\nupdate add(id: int) {\n  insert into user { user.uid = id, user.nick = \"a\" };\n}\n",
+        HINTS,
+    ],
+    [
+        OLD,
+        NEW,
+        "program\nupdate add(id: int) {\n  insert into user { user.uid = id };\n}\n",
+        HINTS,
+    ],
+    [
+        OLD,
+        NEW,
+        PROGRAM,
+        "hints\nhint user.uid -> person.id 100;\n",
+    ],
+    [
+        OLD,
+        NEW,
+        PROGRAM,
+        "hints\nhint user.uid -> person.id 100;\nhint user.nick -> person.nick 99;\n",
+    ],
+    [
+        OLD,
+        NEW,
+        PROGRAM,
+        "hints\nhint user.uid -> person.id 100;\nhint user.nick -> person.nick 100;\nhint user.nick -> person.nick 100;\n",
+    ],
+    [
+        OLD,
+        NEW,
+        PROGRAM,
+        "hints\nhint user.uid -> person.id 100;\nhint user.nick -> person.nick 100;\n}",
+    ],
+];
 
 /// What a call of the desk left.
 #[derive(Drop)]
@@ -72,17 +144,18 @@ fn called(
     list: &[&str],
     text: Bytes,
     mut out: MemSink,
+    mut err: MemSink,
 ) -> Result<Ended, AllocError> {
     let mut files = MemFiles::new(alloc, Seq::new(alloc));
     files.hold(Seq::from_slice(alloc, b"job")?, text)?;
-    let mut err = ample(alloc)?;
     let words = words_of(alloc, list)?;
     let status = desk(alloc, words.as_slice(), &mut files, &mut out, &mut err);
     Ok(Ended { status, out, err })
 }
 
 fn migrated(alloc: Global, text: Bytes, out: MemSink) -> Result<Ended, AllocError> {
-    called(alloc, &["migrate", "job"], text, out)
+    let err = ample(alloc)?;
+    called(alloc, &["migrate", "job"], text, out, err)
 }
 
 #[test]
@@ -96,6 +169,14 @@ fn every_layout_gives_the_same_answer(rt: HostRuntime) -> Result<(), Fail> {
             "breaks {line_break:?}"
         );
     }
+    Ok(())
+}
+
+#[test]
+fn a_job_without_functions_has_an_empty_answer(rt: HostRuntime) -> Result<(), Fail> {
+    let text = joined(rt.alloc(), &[OLD, NEW, "program\n", HINTS])?;
+    let ended = migrated(rt.alloc(), text, ample(rt.alloc())?)?;
+    assert!(rt; ended.is(0, NO_FUNCTIONS, "found: 0 entries\n"));
     Ok(())
 }
 
@@ -117,75 +198,7 @@ fn no_front_is_a_job_but_that_without_the_last_line_feed(rt: HostRuntime) -> Res
 
 #[test]
 fn jobs_that_are_not_plain_are_refused(rt: HostRuntime) -> Result<(), Fail> {
-    let cases = [
-        [
-            "old\ntable user { uid: int, nick: text }\ntable user { uid: int, nick: text }\n",
-            NEW,
-            PROGRAM,
-            HINTS,
-        ],
-        [
-            "old\ntable user { uid: int, nick: key }\n",
-            NEW,
-            PROGRAM,
-            HINTS,
-        ],
-        [
-            "old\ntable user { uid: int, nick: text }\nlink user.uid = user.uid;\n",
-            NEW,
-            PROGRAM,
-            HINTS,
-        ],
-        [
-            OLD,
-            "new\ntable user { id: int, nick: text }\n",
-            PROGRAM,
-            "hints\nhint user.uid -> user.id 100;\nhint user.nick -> user.nick 100;\n",
-        ],
-        [
-            OLD,
-            NEW,
-            "program\nquery all() {\n  select user.uid from user where user.uid = 1;\n}\n",
-            HINTS,
-        ],
-        [
-            OLD,
-            NEW,
-            "program\nupdate add(id: int) {\n  insert into user { user.uid = id, user.nick = \"a\" };\n}\n",
-            HINTS,
-        ],
-        [
-            OLD,
-            NEW,
-            "program\nupdate add(id: int) {\n  insert into user { user.uid = id };\n}\n",
-            HINTS,
-        ],
-        [
-            OLD,
-            NEW,
-            PROGRAM,
-            "hints\nhint user.uid -> person.id 100;\n",
-        ],
-        [
-            OLD,
-            NEW,
-            PROGRAM,
-            "hints\nhint user.uid -> person.id 100;\nhint user.nick -> person.nick 99;\n",
-        ],
-        [
-            OLD,
-            NEW,
-            PROGRAM,
-            "hints\nhint user.uid -> person.id 100;\nhint user.nick -> person.nick 100;\nhint user.nick -> person.nick 100;\n",
-        ],
-        [
-            OLD,
-            NEW,
-            PROGRAM,
-            "hints\nhint user.uid -> person.id 100;\nhint user.nick -> person.nick 100;\n}",
-        ],
-    ];
-    for (i, parts) in cases.iter().enumerate() {
+    for (i, parts) in NOT_PLAIN.iter().enumerate() {
         let text = joined(rt.alloc(), parts)?;
         let ended = migrated(rt.alloc(), text, ample(rt.alloc())?)?;
         assert!(rt; ended.is(2, &[], "job:0:0: not built\n"), "case {i}");
@@ -224,7 +237,13 @@ fn other_words_and_a_missing_file_are_refused(rt: HostRuntime) -> Result<(), Fai
     ];
     for (i, (list, status, report)) in cases.iter().enumerate() {
         let text = joined(rt.alloc(), &[OLD, NEW, PROGRAM, HINTS])?;
-        let ended = called(rt.alloc(), list, text, ample(rt.alloc())?)?;
+        let ended = called(
+            rt.alloc(),
+            list,
+            text,
+            ample(rt.alloc())?,
+            ample(rt.alloc())?,
+        )?;
         assert!(rt; ended.is(*status, &[], report), "case {i}");
     }
     Ok(())
@@ -245,5 +264,15 @@ fn a_sink_takes_all_or_fails_in_mid_stream(rt: HostRuntime) -> Result<(), Fail> 
     let text = joined(rt.alloc(), &[OLD, NEW, PROGRAM, HINTS])?;
     let small = MemSink::new(rt.alloc(), 10, 4096, Seq::new(rt.alloc()))?;
     assert!(rt; migrated(rt.alloc(), text, small)?.is(7, b"answer 1\np", ""));
+    Ok(())
+}
+
+#[test]
+fn a_report_that_fails_leaves_the_whole_answer(rt: HostRuntime) -> Result<(), Fail> {
+    let text = joined(rt.alloc(), &[OLD, NEW, PROGRAM, HINTS])?;
+    let small = MemSink::new(rt.alloc(), 5, 4096, Seq::new(rt.alloc()))?;
+    let out = ample(rt.alloc())?;
+    let ended = called(rt.alloc(), &["migrate", "job"], text, out, small)?;
+    assert!(rt; ended.is(7, ANSWER, "found"));
     Ok(())
 }

@@ -29,4 +29,6 @@ renamed_outcome f o = record { state = renamed_state f o.state; reply = renamed_
 
 -- a renaming that gives different keys to any two different keys of a list commutes with every run whose state, arguments and supply have keys of that list alone
 pub record RenamingLaw : Type 0 where
-  pub by : (schema : Schema) (p : Program) (ks : List ℕ) (f : ℕ → ℕ) → InjectiveOn ks f → (is : List Invocation) (supply : List ℕ) (s : State) → EachValue (IsOfKeys ks) s → EachArgument (IsOfKeys ks) is → Each (λ k. has ks k ≡ true) supply → run schema p (renamed_state f s) (map (renamed_call f) is) (map f supply) ≡ map (renamed_outcome f) (run schema p s is supply)
+  pub by : (schema : Schema) (p : Program) (ks : List ℕ) (f : ℕ → ℕ) → InjectiveOn ks f
+      → (is : List Invocation) (supply : List ℕ) (s : State) → EachValue (IsOfKeys ks) s → EachArgument (IsOfKeys ks) is → Each (λ k. has ks k ≡ true) supply
+      → run schema p (renamed_state f s) (map (renamed_call f) is) (map f supply) ≡ map (renamed_outcome f) (run schema p s is supply)

@@ -35,7 +35,7 @@ pub record IsTable (columns : List Column) (next : ℕ) (rows : List Placed) : T
   pub below : Each (λ (p : Placed). p.id < next) rows
   pub fitting : Each (λ (p : Placed). row_fits columns p.row.values ≡ true) rows
 
--- a state over a schema: a list of rows per table, and no two rows of the state have one id
+-- A state over a schema: a list of rows per table, and no two rows of the state have one id. That ints are 64-bit, keys and ids below 2^64 and texts bytes comes from the types of the code.
 pub record IsState (schema : Schema) (s : State) : Type 0 where
   pub count : length s.tables ≡ length schema.tables
   pub each : (t : ℕ) → IsTable (columns_of schema t) s.next (rows_of s t)

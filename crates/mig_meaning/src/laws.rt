@@ -7,7 +7,7 @@ pub fn renamings_commute()
     ensures { RenamingLaw }
 {}
 
-/// A typed function leads from a state over the schema to a state over the schema.
+/// A typed function with labels up to 15, called with arguments that fit and 16 different keys, leads from a state over the schema to a state over the schema.
 pub fn states_stay()
     ensures { StateLaw }
 {}

@@ -63,6 +63,7 @@ abbrev pub item_text : Schema → List Param → Item → List ℕ
 item_text s ps (item.Col c) = col_text s c
 item_text s ps (item.Scalar x) = scalar_text ps x
 
+-- the sign of an operator
 abbrev pub op_text : Op → List ℕ
 op_text Eq = codes "="
 op_text Ne = codes "<>"
@@ -104,6 +105,7 @@ assign_text s ps a = col_text s a.column ++ (codes " = " ++ scalar_text ps a.val
 abbrev pub values_text : Schema → List Param → List Assign → List ℕ
 values_text s ps values = codes " { " ++ (join_by (assign_text s ps) (codes ", ") values ++ codes " }")
 
+-- an insert
 abbrev pub insert_text : Schema → List Param → Join → List Assign → List ℕ
 insert_text s ps join values = codes "insert into " ++ (join_text s join ++ values_text s ps values)
 
@@ -126,6 +128,7 @@ abbrev pub body_text : Schema → List Param → Body → List ℕ
 body_text s ps (body.Update stmts) = flat_map (λ t. line_text (stmt_text s ps t)) stmts
 body_text s ps (body.Query query) = line_text (query_text s ps query)
 
+-- the word of a kind
 abbrev pub kind_text : Kind → List ℕ
 kind_text kind.Int = codes "int"
 kind_text kind.Text = codes "text"
@@ -135,6 +138,7 @@ kind_text kind.Key = codes "key"
 abbrev pub param_text : Param → List ℕ
 param_text p = p.name ++ (codes ": " ++ kind_text p.kind)
 
+-- the word that begins a function, and a space
 abbrev pub sort_text : Body → List ℕ
 sort_text (body.Update stmts) = codes "update "
 sort_text (body.Query query) = codes "query "

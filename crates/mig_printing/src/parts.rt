@@ -117,7 +117,7 @@ impl Written for Seq<Cmp> {
     }
 }
 
-/// Appends `T.c`.
+/// Appends `T.c`. On want of memory nothing is said of what `out` holds.
 pub fn put_col(out: &mut Txt, schema: &Schema, col: ColId) -> Result<(), AllocError>
     ensures { OnOk result (out.new ≡ out.old ++ col_text schema.now col) }
 {
@@ -126,14 +126,14 @@ pub fn put_col(out: &mut Txt, schema: &Schema, col: ColId) -> Result<(), AllocEr
     put_bytes(out, column_name(schema, col))
 }
 
-/// Appends columns, as `T.c, U.d`.
+/// Appends columns, as `T.c, U.d`. On want of memory nothing is said of what `out` holds.
 pub fn put_cols(out: &mut Txt, schema: &Schema, cols: &[ColId]) -> Result<(), AllocError>
     ensures { OnOk result (out.new ≡ out.old ++ cols_text schema.now cols.now) }
 {
     put_joined(out, schema, &[], ", ", cols)
 }
 
-/// Appends a join, as `T join U on T.c = U.d`.
+/// Appends a join, as `T join U on T.c = U.d`. On want of memory nothing is said of what `out` holds.
 pub fn put_join(out: &mut Txt, schema: &Schema, join: &Join) -> Result<(), AllocError>
     ensures { OnOk result (out.new ≡ out.old ++ join_text schema.now join.now) }
 {

@@ -9,14 +9,14 @@ use itoa::Buffer;
 use mig_schema::{ColId, Column, Kind, Op, Param, Schema, Txt};
 use std::alloc::AllocError;
 
-/// Appends a text as it is.
+/// Appends a text as it is. On want of memory nothing is said of what `out` holds.
 pub fn put(out: &mut Txt, text: &str) -> Result<(), AllocError>
     ensures { OnOk result (out.new ≡ out.old ++ text.now) }
 {
     out.extend_from_slice(text.as_bytes())
 }
 
-/// Appends a number in decimal digits, without leading zeros.
+/// Appends a number in decimal digits, without leading zeros. On want of memory nothing is said of what `out` holds.
 pub fn put_number(out: &mut Txt, number: u32) -> Result<(), AllocError>
     ensures { OnOk result (out.new ≡ out.old ++ decimal number) }
 {

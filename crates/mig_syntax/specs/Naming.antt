@@ -55,6 +55,7 @@ col_of tables c = record { table = table_of tables c.table; column = number_of (
 abbrev pub param_of : List Param → List ℕ → ℕ
 param_of params name = number_of (λ (p : Param). bytes_eq p.name name) params
 
+-- an assignment
 abbrev pub assign_of : List Table → List Param → AssignTree → Assign
 assign_of tables params a = record { column = col_of tables a.column; value = scalar.Param (param_of params a.value) }
 
@@ -62,6 +63,7 @@ assign_of tables params a = record { column = col_of tables a.column; value = sc
 abbrev pub join_of : List Table → List ℕ → Join
 join_of tables name = record { first = table_of tables name; more = [] }
 
+-- a statement
 abbrev pub stmt_of : List Table → List Param → StmtTree → Stmt
 stmt_of tables params (stmt_tree.Insert table values) = stmt.Insert (join_of tables table) (map (assign_of tables params) values)
 
@@ -69,16 +71,20 @@ stmt_of tables params (stmt_tree.Insert table values) = stmt.Insert (join_of tab
 abbrev pub no_where : Cond
 no_where = record { cases = [] ∷ [] }
 
+-- a query
 abbrev pub query_of : List Table → SelectTree → Query
 query_of tables s = record { columns = map (col_of tables) s.columns; join = join_of tables s.table; cond = no_where }
 
+-- the statements, or the query
 abbrev pub body_of : List Table → List Param → BodyTree → Body
 body_of tables params (body_tree.Update stmts) = body.Update (map (stmt_of tables params) stmts)
 body_of tables params (body_tree.Query s) = body.Query (query_of tables s)
 
+-- a function, whose names of parameters are its own
 abbrev pub function_of : List Table → FunctionTree → Function
 function_of tables f = record { name = f.name; params = f.params; body = body_of tables f.params f.body }
 
+-- a hint, with its weight as a number
 abbrev pub hint_of : (source target : List Table) → HintTree → Hint
 hint_of source target h = record { source = col_of source h.source; target = col_of target h.target; weight = weight_of h.weight }
 

@@ -64,7 +64,7 @@ pub enum Limit {
 pub enum ReadError {
     /// Memory ran out.
     Memory,
-    /// The first wrong token stands here: no job has the tokens before it and itself.
+    /// The first wrong token stands here: no text of the grammar that is read has the tokens before it and itself.
     At { left: usize },
     /// The first token that passes a limit stands here, and all tokens before it can go on.
     Limit { which: Limit, left: usize },
@@ -97,7 +97,7 @@ pub enum TextFault {
     Limit { which: Limit, line: u32 },
     /// The first broken typing rule.
     Typing(TypeFault),
-    /// The text has a part that this program does not read yet; the part begins here.
+    /// The text is no typed plain job within the limits: only those are read yet, and no place is told (line 0, column 0).
     NotBuilt { line: u32, column: u32 },
 }
 

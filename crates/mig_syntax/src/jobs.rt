@@ -99,11 +99,11 @@ fn answer_of(alloc: Global, bytes: &[u8]) -> Result<JobTree, ReadError>
 
 /// The job that a text spells, with its names and numbers as they are written.
 ///
-/// The bytes are those of the whole text. `At` comes at the first token that no job has behind the tokens before it,
+/// Only the lines of the grammar in `docs/LANGUAGE.md` are read: a link, a join, a `where` or a literal is refused like
+/// any other wrong token. `At` comes at the first token that no text of that grammar has behind the tokens before it,
 /// and `Limit` at the first token that passes a limit, where it could go on; the earlier token decides, and at one token
 /// `At` comes first. Both say how many tokens are left there: the token itself, those behind it, and the end of the text
-/// as one. Columns of kind key are not counted. Nothing else is refused, but for want of memory: names may be unknown,
-/// or stand twice.
+/// as one. Columns of kind key are not counted. Names may be unknown, or stand twice. Want of memory may come instead.
 pub fn read_tree(alloc: Global, bytes: &[u8]) -> Result<JobTree, ReadError>
     ensures found { IfOk result (λ t. IsTreeText bytes.now t) }
     ensures only { (t : JobTree) → IsTreeText bytes.now t → (result ≡ Ok t) ⊎ (result ≡ Err ReadError.Memory) }

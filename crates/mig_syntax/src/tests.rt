@@ -167,60 +167,69 @@ fn repeated(alloc: Global, parts: [&str; 3], n: usize) -> Result<Vec<u8>, AllocE
     Ok(out)
 }
 
+/// A head, a piece and a tail; how many pieces are within the limit; and the limit.
+const TOO_MANY: [([&str; 3], usize, Limit); 8] = [
+    (
+        ["old ", "table a { b: int } ", "new program hints"],
+        16,
+        Limit::Tables,
+    ),
+    (
+        ["old new table a { b: int", ", b: int", "} program hints"],
+        11,
+        Limit::Columns,
+    ),
+    (
+        [
+            "old new program ",
+            "query a() { select b.c from b; } ",
+            "hints",
+        ],
+        32,
+        Limit::Functions,
+    ),
+    (
+        [
+            "old new program query a(p: int",
+            ", p: text",
+            ") { select b.c from b; } hints",
+        ],
+        7,
+        Limit::Parameters,
+    ),
+    (
+        [
+            "old new program update a() { ",
+            "insert into b { b.c = p }; ",
+            "} hints",
+        ],
+        4,
+        Limit::Statements,
+    ),
+    (
+        [
+            "old new program query a() { select b.c",
+            ", b.c",
+            " from b; } hints",
+        ],
+        15,
+        Limit::Selected,
+    ),
+    (
+        ["old new program hints ", "hint a.b -> c.d 1; ", ""],
+        256,
+        Limit::Hints,
+    ),
+    (
+        ["old table ", "a", " { b: int } new program hints"],
+        32,
+        Limit::Name,
+    ),
+];
+
 #[test]
 fn one_too_many_is_refused(rt: HostRuntime) -> Result<(), Fail> {
-    let select = "query a() { select b.c from b; } ";
-    let cases = [
-        (
-            ["old ", "table a { b: int } ", "new program hints"],
-            16,
-            Limit::Tables,
-        ),
-        (
-            ["old new table a { b: int", ", b: int", "} program hints"],
-            11,
-            Limit::Columns,
-        ),
-        (["old new program ", select, "hints"], 32, Limit::Functions),
-        (
-            [
-                "old new program query a(p: int",
-                ", p: text",
-                ") { select b.c from b; } hints",
-            ],
-            7,
-            Limit::Parameters,
-        ),
-        (
-            [
-                "old new program update a() { ",
-                "insert into b { b.c = p }; ",
-                "} hints",
-            ],
-            4,
-            Limit::Statements,
-        ),
-        (
-            [
-                "old new program query a() { select b.c",
-                ", b.c",
-                " from b; } hints",
-            ],
-            15,
-            Limit::Selected,
-        ),
-        (
-            ["old new program hints ", "hint a.b -> c.d 1; ", ""],
-            256,
-            Limit::Hints,
-        ),
-        (
-            ["old table ", "a", " { b: int } new program hints"],
-            32,
-            Limit::Name,
-        ),
-    ];
-    for (parts, most, limit) in cases {
+    for (parts, most, limit) in TOO_MANY {
         let within = repeated(rt.alloc(), parts, most)?;
         assert!(rt;
             read_tree(rt.alloc(), within.as_slice()).is_ok(),
