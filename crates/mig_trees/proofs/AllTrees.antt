@@ -1,7 +1,8 @@
 -- The lists that the functions build hold all link trees that serve a need, in order.
-use Rattle.std.proofs.Common.{◌≡◌, ℕ, ◌+◌, ◌<◌, true, List, length, refl, ap, sym, ◌∙◌, subst, inl, inr, arith}
+use Rattle.std.proofs.Common.{◌≡◌, ℕ, ◌+◌, ◌<◌, true, List, length, refl, ap, sym, ◌∙◌, subst, inl, inr, arith, [], ◌∷◌, false}
 use Rattle.std.specs.Prelude.{filter}
-use Rattle.mig_listing.specs.Listing.{IsListOf}
+use Rattle.std.proofs.lemmas.Bool.{false≢true}
+use Rattle.mig_listing.specs.Listing.{IsIn, IsListOf}
 use Rattle.mig_listing.specs.Orders.{Less, Lex}
 use Rattle.mig_listing.specs.Choices.{IsChoice, numbers, choices}
 use Rattle.mig_listing.proofs.Rising.{rises_filter}
@@ -27,6 +28,19 @@ listed_over schema count tables =
     listed_map {P = λ links. IsChoice count (inside schema tables) links × (is_tree schema tables links ≡ true)} {R = Lex Less} {S = TreeBefore} (tree_of tables) (filter (is_tree schema tables) (choices count (inside schema tables)))
     (listed_filter {P = IsChoice count (inside schema tables)} {R = Lex Less} (is_tree schema tables) (choices count (inside schema tables)) (choices_listed count (inside schema tables) rising))
     (λ a b r. inr (refl, inr (refl, r)))
+
+pub none_of : {A : Type 0} (xs : List A) → ((x : A) → IsIn x xs → ⊥) → xs ≡ []
+none_of [] h = refl
+none_of (x ∷ xs) h = absurd (h x (inl refl))
+
+-- where the links inside do not connect the tables together, no choice of them does
+pub is_tree_more : (schema : Schema) (tables links more : List ℕ) → ((n : ℕ) → IsIn n links → IsIn n more) → is_tree schema tables links ≡ true → is_tree schema tables more ≡ true
+is_tree_more schema tables links more within e = connects_from schema tables more (λ part closed. connects_to schema tables links e part (λ n l i is. closed n l (within n i) is))
+
+pub none_over : (schema : Schema) (count : ℕ) (tables : List ℕ) → is_tree schema tables (inside schema tables) ≡ false → trees_over schema count tables ≡ []
+none_over schema count tables f = none_of (trees_over schema count tables) (λ t i.
+    let over = (listed_over schema count tables).holds t i in
+    false≢true (sym f ∙ is_tree_more schema tables over.0 (inside schema tables) over.1.0.from over.1.1))
 
 -- a set of tables for so many links that serves the need
 abbrev pub IsFor : Schema → List (List ColId) → ℕ → List ℕ → Type 0

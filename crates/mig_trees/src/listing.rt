@@ -32,6 +32,19 @@ fn add_joined(
     Ok(())
 }
 
+/// Whether the links connect the tables.
+fn connects(
+    alloc: Global,
+    schema: &Schema,
+    tables: &[u32],
+    links: &[u32],
+) -> Result<bool, AllocError>
+    ensures { IfOk result (λ b. b ≡ is_tree schema.now tables.now links.now) }
+{
+    let join = written(alloc, schema, tables, links)?;
+    Ok(covers(tables, &join))
+}
+
 /// Adds the trees over these tables with so many links.
 fn add_over(
     alloc: Global,
@@ -43,6 +56,10 @@ fn add_over(
     ensures { OnOk result (list.new.items ≡ list.old.items ++ map (written schema.now) (trees_over schema.now count tables.now)) }
 {
     let pool = inside(alloc, schema, tables)?;
+    // Where all links together don't connect the tables, no few of them do: this alone spares most sets of tables.
+    if !connects(alloc, schema, tables, pool.as_slice())? {
+        return Ok(());
+    }
     let sets = choices(alloc, count, pool.as_slice())?;
     add_joined(alloc, schema, tables, sets.as_slice(), list)
 }
