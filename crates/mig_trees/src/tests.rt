@@ -16,7 +16,7 @@ struct Case {
     joins: &'static [(u32, &'static [Pair])],
 }
 
-const CASES: [Case; 8] = [
+const CASES: [Case; 9] = [
     Case {
         name: "two equal links, and one within a table",
         tables: 2,
@@ -30,20 +30,33 @@ const CASES: [Case; 8] = [
         ],
     },
     Case {
-        name: "a triangle, whose first link is between its last tables",
+        name: "pupils, classes and rooms, as docs/SEARCH.md has them",
         tables: 3,
-        links: &[[1, 0, 2, 0], [0, 0, 2, 1], [0, 1, 1, 1]],
+        links: &[[0, 1, 1, 0], [1, 1, 2, 0], [2, 1, 0, 0]],
         need: &[],
         joins: &[
             (0, &[]),
             (1, &[]),
             (2, &[]),
-            (0, &[[0, 1, 1, 1]]),
+            (0, &[[0, 1, 1, 0]]),
             (0, &[[0, 0, 2, 1]]),
-            (1, &[[1, 0, 2, 0]]),
-            (0, &[[0, 0, 2, 1], [2, 0, 1, 0]]),
-            (0, &[[0, 1, 1, 1], [1, 0, 2, 0]]),
-            (0, &[[0, 0, 2, 1], [0, 1, 1, 1]]),
+            (1, &[[1, 1, 2, 0]]),
+            (0, &[[0, 1, 1, 0], [1, 1, 2, 0]]),
+            (0, &[[0, 1, 1, 0], [0, 0, 2, 1]]),
+            (0, &[[0, 0, 2, 1], [2, 0, 1, 1]]),
+        ],
+    },
+    Case {
+        name: "the same, where a pupil and a room's number are needed",
+        tables: 3,
+        links: &[[0, 1, 1, 0], [1, 1, 2, 0], [2, 1, 0, 0]],
+        need: &[&[[0, 0]], &[[1, 1], [2, 0]]],
+        joins: &[
+            (0, &[[0, 1, 1, 0]]),
+            (0, &[[0, 0, 2, 1]]),
+            (0, &[[0, 1, 1, 0], [1, 1, 2, 0]]),
+            (0, &[[0, 1, 1, 0], [0, 0, 2, 1]]),
+            (0, &[[0, 0, 2, 1], [2, 0, 1, 1]]),
         ],
     },
     Case {
