@@ -125,6 +125,15 @@ fn with_breaks(alloc: Global, line_break: &[u8]) -> Result<Bytes, AllocError> {
     Ok(text)
 }
 
+/// The job, with a comment up to this length behind it.
+fn padded(alloc: Global, length: usize) -> Result<Bytes, AllocError> {
+    let mut text = joined(alloc, &[OLD, NEW, PROGRAM, HINTS, "#"])?;
+    for _ in text.len()..length {
+        text.push(b'x')?;
+    }
+    Ok(text)
+}
+
 /// A sink with ample room.
 fn ample(alloc: Global) -> Result<MemSink, AllocError> {
     MemSink::new(alloc, 4096, 4096, Seq::new(alloc))
@@ -209,10 +218,7 @@ fn jobs_that_are_not_plain_are_refused(rt: HostRuntime) -> Result<(), Fail> {
 #[test]
 fn a_job_of_262144_bytes_is_taken_and_no_longer_one(rt: HostRuntime) -> Result<(), Fail> {
     for (length, status) in [(262_144, 0u8), (262_145, 10)] {
-        let mut text = joined(rt.alloc(), &[OLD, NEW, PROGRAM, HINTS, "#"])?;
-        while text.len() < length {
-            text.push(b'x')?;
-        }
+        let text = padded(rt.alloc(), length)?;
         let ended = migrated(rt.alloc(), text, ample(rt.alloc())?)?;
         let right = if status == 0 {
             ended.is(0, ANSWER, "found: 0 entries\n")
