@@ -4,7 +4,10 @@
 mod exact;
 mod faults;
 mod jobs;
+mod lists;
 mod programs;
+mod same_parts;
+mod same_programs;
 mod seq;
 mod tables;
 #[cfg(test)]
@@ -14,6 +17,7 @@ mod values;
 pub use exact::{Exact, same_text};
 pub use faults::{HintRule, ProgramRule, SchemaRule, Side, TypeFault};
 pub use jobs::{Hint, Job};
+pub use lists::{ColSets, TreeList};
 pub use programs::{
     Assign, Body, Cmp, Cond, Function, Item, Join, Joined, Op, Param, Program, Query, Scalar, Stmt,
 };
