@@ -11,10 +11,12 @@ use Rattle.mig_listing.proofs.Members.{in_append, in_append_left, in_append_righ
 use Rattle.mig_listing.proofs.Orders.{Lex-append, Lex-same_front}
 use Rattle.mig_listing.proofs.Rising.{rises_append, rises_left, rises_across}
 
+-- the one choice of none
 pub choices-zero : (pool : List ℕ) → choices 0 pool ≡ [] ∷ []
 unfolding choices
 choices-zero pool = refl
 
+-- the choices of one more are the longer ones of those of n
 pub choices-suc : (n : ℕ) (pool : List ℕ) → choices (suc n) pool ≡ flat_map (longer pool) (choices n pool)
 unfolding choices
 choices-suc n pool = refl
@@ -27,6 +29,7 @@ numbers_below (suc n) x i = elim (in_append (numbers n) (n ∷ []) x i) [
   | inr j ↦ elim j [ inl e ↦ omega arith | inr k ↦ absurd k ]
 ]
 
+-- each number below n is one of them
 pub in_numbers : (n x : ℕ) → x < n → IsIn x (numbers n)
 in_numbers zero x h = absurd (omega arith)
 in_numbers (suc n) x h = elim (cases_eq x n) [
@@ -34,10 +37,12 @@ in_numbers (suc n) x h = elim (cases_eq x n) [
   | inr ne ↦ in_append_left (numbers n) (n ∷ []) x (in_numbers n x (omega arith))
 ]
 
+-- they rise
 pub numbers_rise : (n : ℕ) → Rises Less (numbers n)
 numbers_rise zero = tt
 numbers_rise (suc n) = rises_append {R = Less} (numbers n) (n ∷ []) (numbers_rise n) ((λ y i. absurd i), tt) (λ x y i j. let h = numbers_below n x i in elim j [ inl e ↦ omega arith | inr k ↦ absurd k ])
 
+-- so they are the list of the numbers below n
 pub listed_numbers : (n : ℕ) → IsListOf (λ x. x < n) Less (numbers n)
 listed_numbers n = record { rises = numbers_rise n; holds = λ x i. numbers_below n x i; has = λ x h. in_numbers n x h }
 
@@ -49,10 +54,12 @@ above_to (z ∷ c) x y h i = let parts = and_parts _ _ h in elim i [
   | inr j ↦ above_to c x y parts.1 j
 ]
 
+-- what is above each of a choice is above it
 pub above_from : (c : List ℕ) (x : ℕ) → ((y : ℕ) → IsIn y c → y < x) → is_above c x ≡ true
 above_from [] x h = refl
 above_from (z ∷ c) x h = and_from _ _ (lt-ltb z x (h z (inl refl))) (above_from c x (λ y i. h y (inr i)))
 
+-- a list of no length is empty
 pub is_nil : (c : List ℕ) → length c ≡ 0 → c ≡ []
 is_nil [] e = refl
 is_nil (x ∷ c) e = absurd (omega (arith, e))
@@ -89,12 +96,15 @@ listed_self pool r = record { rises = r; holds = λ x i. i; has = λ x i. i }
 abbrev pub IsLonger : List ℕ → List ℕ → List ℕ → Type 0
 IsLonger pool c y = (x : ℕ) × (IsIn x pool × (is_above c x ≡ true)) × (y ≡ c ++ x ∷ [])
 
+-- the choices with one more of the pool are listed in order
 pub listed_longer : (pool c : List ℕ) → Rises Less pool → IsListOf (IsLonger pool c) (Lex Less) (longer pool c)
 listed_longer pool c r = listed_map {P = λ x. IsIn x pool × (is_above c x ≡ true)} {R = Less} {S = Lex Less} (λ x. c ++ x ∷ []) (filter (is_above c) pool) (listed_filter {P = λ x. IsIn x pool} {R = Less} (is_above c) pool (listed_self pool r)) (λ a b s. Lex-same_front Less c (a ∷ []) (b ∷ []) (inl s))
 
+-- a choice with one more of the pool is a choice of one more
 pub choice_to : (n : ℕ) (pool y : List ℕ) → (c : List ℕ) × IsChoice n pool c × IsLonger pool c y → IsChoice (suc n) pool y
 choice_to n pool y h = subst (IsChoice (suc n) pool) (sym h.2.2) (choice_more n pool h.0 h.2.0 h.1 h.2.1.0 h.2.1.1)
 
+-- and each choice of one more is such
 pub choice_back : (n : ℕ) (pool y : List ℕ) → IsChoice (suc n) pool y → (c : List ℕ) × IsChoice n pool c × IsLonger pool c y
 choice_back n pool y k =
     let split = split_last n y k.sized in

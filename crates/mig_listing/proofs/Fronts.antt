@@ -4,7 +4,7 @@ use Rattle.mig_listing.specs.Fronts.{IsFront, IsNext}
 use Rattle.mig_listing.specs.Listing.{IsIn, Rises, IsListOf}
 use Rattle.mig_listing.specs.Orders.{IsOrder, IsTotalOn}
 use Rattle.mig_listing.proofs.Members.{in_append, in_append_left, in_append_right}
-use Rattle.mig_listing.proofs.Rising.{rises_append}
+use Rattle.mig_listing.proofs.Rising.{rises_append, rises_total}
 use Rattle.mig_listing.proofs.Unique.{in_tail}
 
 -- nothing is a front
@@ -68,5 +68,5 @@ pub front_is_first : {A : Type 0} {P : A → Type 0} {R : A → A → Type 0} �
 front_is_first o xs all f l = front_begins o xs all f.rises l.rises (λ x i. l.has x (f.holds x i)) (λ a i. f.first a (l.holds a i))
 
 -- the whole begins with a front and the next item behind it
-pub next_is_next : {A : Type 0} {P : A → Type 0} {R : A → A → Type 0} → IsOrder R → IsTotalOn P R → (xs all : List A) (m : A) → IsFront P R xs → IsNext P R xs m → IsListOf P R all → (rest : List A) × (all ≡ (xs ++ m ∷ []) ++ rest)
-next_is_next o total xs all m f n l = front_is_first o (xs ++ m ∷ []) all (front_more o total xs m f n) l
+pub next_is_next : {A : Type 0} {P : A → Type 0} {R : A → A → Type 0} → IsOrder R → (xs all : List A) (m : A) → IsFront P R xs → IsNext P R xs m → IsListOf P R all → (rest : List A) × (all ≡ (xs ++ m ∷ []) ++ rest)
+next_is_next {R = R} o xs all m f n l = front_is_first o (xs ++ m ∷ []) all (front_more o (λ a b p q. rises_total R all a b l.rises (l.has a p) (l.has b q)) xs m f n) l

@@ -7,10 +7,12 @@ use Rattle.mig_listing.specs.Orders.{IsOrder, IsTotalOn, Less, TrueFirst, Lex, F
 pub less_order : IsOrder Less
 less_order = record { never = λ x h. omega arith; on = λ x y z h k. omega arith }
 
+-- no list stands before itself
 pub Lex-never : {A : Type 0} {R : A → A → Type 0} → IsOrder R → (xs : List A) → Lex R xs xs → ⊥
 Lex-never o [] h = h
 Lex-never o (x ∷ xs) h = elim h [ inl r ↦ o.never x r | inr t ↦ Lex-never o xs t.1 ]
 
+-- a list that stands before another stands before all that this one stands before
 pub Lex-on : {A : Type 0} {R : A → A → Type 0} → IsOrder R → (xs ys zs : List A) → Lex R xs ys → Lex R ys zs → Lex R xs zs
 Lex-on o [] ys zs h k = absurd h
 Lex-on o (x ∷ xs) [] zs h k = absurd h
@@ -64,6 +66,7 @@ FirstBy-total key P t u = λ x y p q. elim (t (key x) (key y)) [
 pub true_first_order : IsOrder TrueFirst
 true_first_order = record { never = λ x h. false≢true (sym h.1 ∙ h.0); on = λ x y z h k. (h.0, k.1) }
 
+-- of two different truth values one stands first
 pub true_first_total : (a b : Bool) → (a ≡ b) ⊎ (TrueFirst a b ⊎ TrueFirst b a)
 true_first_total true true = inl refl
 true_first_total true false = inr (inl (refl, refl))
@@ -83,5 +86,6 @@ Lex-cases {A} {R} t (x ∷ xs) (y ∷ ys) e = elim (t x y) [
   | inr order ↦ elim order [ inl r ↦ inr (inl (inl r)) | inr r ↦ inr (inr (inl r)) ]
 ]
 
+-- of two different lists of one length one stands first
 pub Lex-total : {A : Type 0} (n : ℕ) {P : List A → Type 0} {R : A → A → Type 0} → ((xs : List A) → P xs → length xs ≡ n) → ((a b : A) → (a ≡ b) ⊎ (R a b ⊎ R b a)) → IsTotalOn P (Lex R)
 Lex-total n sized t = λ x y p q. Lex-cases t x y (sized x p ∙ sym (sized y q))

@@ -1,5 +1,5 @@
 -- Lists made of rising lists, and when they rise.
-use Rattle.std.proofs.Common.{Bool, List, [], ◌∷◌, ◌++◌, map, refl, sym, subst, inl, inr}
+use Rattle.std.proofs.Common.{◌≡◌, ◌⊎◌, Bool, List, [], ◌∷◌, ◌++◌, map, refl, sym, ◌∙◌, subst, inl, inr}
 use Rattle.std.specs.Prelude.{filter}
 use Rattle.std.specs.List.{flat_map}
 use Rattle.std.proofs.lemmas.Bool.{cases_Bool}
@@ -48,4 +48,18 @@ rises_filter R p [] r = tt
 rises_filter R p (x ∷ xs) r = elim (cases_Bool (p x)) [
   | inl t ↦ rw t ((λ y i. r.0 y (in_filter p xs y i).0), rises_filter R p xs r.1)
   | inr f ↦ rw f (rises_filter R p xs r.1)
+]
+
+-- of two different items of a rising list one stands before the other
+pub rises_total : {A : Type 0} (R : A → A → Type 0) (xs : List A) (a b : A) → Rises R xs → IsIn a xs → IsIn b xs → (a ≡ b) ⊎ (R a b ⊎ R b a)
+rises_total R [] a b r i j = absurd i
+rises_total R (x ∷ xs) a b r i j = elim i [
+  | inl e ↦ elim j [
+    | inl d ↦ inl (e ∙ sym d)
+    | inr k ↦ inr (inl (subst (λ c. R c b) (sym e) (r.0 b k)))
+  ]
+  | inr h ↦ elim j [
+    | inl d ↦ inr (inr (subst (λ c. R c a) (sym d) (r.0 a h)))
+    | inr k ↦ rises_total R xs a b r.1 h k
+  ]
 ]

@@ -4,7 +4,7 @@
 ghost use Rattle.std.specs.Prelude.{◌≡◌, ◌++◌, ◌∷◌, [], ℕ, Bool, List};
 ghost use Rattle.mig_listing.specs.Listing.{IsListOf, Rises};
 ghost use Rattle.mig_listing.specs.Fronts.{IsFront, IsNext};
-ghost use Rattle.mig_listing.specs.Orders.{IsOrder, IsTotalOn, Less, Lex};
+ghost use Rattle.mig_listing.specs.Orders.{IsOrder, Less, Lex};
 ghost use Rattle.mig_listing.specs.Choices.{IsChoice, choices};
 ghost use Rattle.mig_listing.specs.Tests.{Passes, Precedes};
 
@@ -21,7 +21,6 @@ pub fn one_listing<T>()
 pub fn next_of_listing<T>()
     ensures next { (test : T → Bool) (before : T → T → Bool) (all xs : List T) (m : T)
         → IsOrder (Precedes before)
-        → IsTotalOn (Passes test) (Precedes before)
         → IsListOf (Passes test) (Precedes before) all
         → IsFront (Passes test) (Precedes before) xs
         → IsNext (Passes test) (Precedes before) xs m

@@ -21,6 +21,7 @@ use Rattle.mig_trees.proofs.Covering.{connects_to, connects_from}
 abbrev pub IsOver : Schema → ℕ → List ℕ → Tree → Type 0
 IsOver schema count tables t = (links : List ℕ) × (IsChoice count (inside schema tables) links × (is_tree schema tables links ≡ true)) × (t ≡ tree_of tables links)
 
+-- the trees over these tables are listed in order
 pub listed_over : (schema : Schema) (count : ℕ) (tables : List ℕ) → IsListOf (IsOver schema count tables) TreeBefore (trees_over schema count tables)
 listed_over schema count tables =
     let pool = inside schema tables in
@@ -29,6 +30,7 @@ listed_over schema count tables =
     (listed_filter {P = IsChoice count (inside schema tables)} {R = Lex Less} (is_tree schema tables) (choices count (inside schema tables)) (choices_listed count (inside schema tables) rising))
     (λ a b r. inr (refl, inr (refl, r)))
 
+-- a list in which nothing stands is empty
 pub none_of : {A : Type 0} (xs : List A) → ((x : A) → IsIn x xs → ⊥) → xs ≡ []
 none_of [] h = refl
 none_of (x ∷ xs) h = absurd (h x (inl refl))
@@ -37,6 +39,7 @@ none_of (x ∷ xs) h = absurd (h x (inl refl))
 pub is_tree_more : (schema : Schema) (tables links more : List ℕ) → ((n : ℕ) → IsIn n links → IsIn n more) → is_tree schema tables links ≡ true → is_tree schema tables more ≡ true
 is_tree_more schema tables links more within e = connects_from schema tables more (λ part closed. connects_to schema tables links e part (λ n l i is. closed n l (within n i) is))
 
+-- so there are no trees over such tables
 pub none_over : (schema : Schema) (count : ℕ) (tables : List ℕ) → is_tree schema tables (inside schema tables) ≡ false → trees_over schema count tables ≡ []
 none_over schema count tables f = none_of (trees_over schema count tables) (λ t i.
     let over = (listed_over schema count tables).holds t i in
@@ -50,6 +53,7 @@ IsFor schema need count tables = IsChoice (count + 1) (numbers (length schema.ta
 abbrev pub IsSized : Schema → List (List ColId) → ℕ → Tree → Type 0
 IsSized schema need count t = (tables : List ℕ) × IsFor schema need count tables × IsOver schema count tables t
 
+-- the trees of so many links that serve are listed in order
 pub listed_sized : (schema : Schema) (need : List (List ColId)) (count : ℕ) → IsListOf (IsSized schema need count) TreeBefore (trees_of schema need count)
 listed_sized schema need count =
     let pool = numbers (length schema.tables) in
@@ -58,6 +62,7 @@ listed_sized schema need count =
     (λ tables s. listed_over schema count tables)
     (λ a b u v p q r l m. subst (λ z. TreeBefore z v) (sym l.2) (subst (λ z. TreeBefore (tree_of a l.0) z) (sym m.2) (inr (p.0.sized ∙ sym q.0.sized, inl r))))
 
+-- a tree has one table more than links
 pub size_of : (schema : Schema) (need : List (List ColId)) (count : ℕ) (t : Tree) → IsSized schema need count t → length t.tables ≡ count + 1
 size_of schema need count t h = ap (λ (s : Tree). length s.tables) h.2.2 ∙ h.1.0.sized
 
@@ -79,6 +84,7 @@ sized_to schema need count t small h =
       serves_to need h.0 h.1.1,
     )
 
+-- a link tree that serves is a tree of as many links as it has
 pub sized_from : (schema : Schema) (need : List (List ColId)) (t : Tree) → IsServing schema need t → IsSized schema need (length t.links) t
 sized_from schema need t s =
     let is = s.0 in
@@ -92,9 +98,11 @@ sized_from schema need t s =
       ),
     )
 
+-- a tree of fewer tables stands first
 pub fewer_first : (s t : Tree) (m n : ℕ) → length s.tables ≡ m + 1 → length t.tables ≡ n + 1 → m < n → TreeBefore s t
 fewer_first s t m n e f h = inl (omega (arith, e, f, h))
 
+-- all link trees that serve are listed in order
 pub all_listed : (schema : Schema) (need : List (List ColId)) → IsListOf (IsServing schema need) TreeBefore (trees_below schema need 4)
 all_listed schema need =
     listed_as {P = λ t. (n : ℕ) × (n < 4) × IsSized schema need n t} {Q = IsServing schema need} (trees_below schema need 4)

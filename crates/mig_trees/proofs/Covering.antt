@@ -18,6 +18,7 @@ pub taken_is : (n : ℕ) (more : List Joined) → is_taken n more ≡ is_among n
 taken_is n [] = refl
 taken_is n (j ∷ more) = ap (λ b. eqb j.table n || b) (taken_is n more)
 
+-- a join has a table where that is its first one or a joined one
 pub joined_is : (n : ℕ) (join : Join) → has_joined n join ≡ is_among n (join.first ∷ map (λ (j : Joined). j.table) join.more)
 joined_is n join = ap (λ b. eqb join.first n || b) (taken_is n join.more)
 
@@ -36,6 +37,7 @@ alike schema tables links e part closed a i =
 pub connects_to : (schema : Schema) (tables links : List ℕ) → is_tree schema tables links ≡ true → Connects schema tables links
 connects_to schema tables links e = λ part closed a b i j. alike schema tables links e part closed a i ∙ sym (alike schema tables links e part closed b j)
 
+-- the first of some tables is one of them
 pub first_in : (tables : List ℕ) (a : ℕ) → IsIn a tables → IsIn (slice_index_or tables 0 0) tables
 first_in [] a i = absurd i
 first_in (x ∷ tables) a i = inl refl

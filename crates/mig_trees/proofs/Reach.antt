@@ -1,9 +1,9 @@
 -- Which tables a join takes: all that the links connect to its first one.
 use Rattle.std.proofs.Common.{◌≡◌, ℕ, ◌+◌, ◌≤◌, ◌⊎◌, Bool, true, false, cond, eqb, List, [], ◌∷◌, ◌++◌, length, map, Option, Some, None, append_assoc, refl, ap, sym, ◌∙◌, subst, inl, inr, arith, suc, zero}
-use Rattle.std.specs.Prelude.{slice_get, ◌&&◌, ◌||◌}
+use Rattle.std.specs.Prelude.{slice_get, ◌&&◌}
 use Rattle.std.proofs.lemmas.List.{append-nil}
 use Rattle.std.proofs.lemmas.Option.{same_Some, none-some}
-use Rattle.std.proofs.lemmas.Bool.{cases_Bool, eq-eqb, eqb-true, or_cases, and_parts, and_from, false≢true}
+use Rattle.std.proofs.lemmas.Bool.{cases_Bool, eq-eqb, eqb-true, or_cases, or_left, or_right, and_parts, and_from, false≢true}
 use Rattle.mig_listing.specs.Listing.{IsIn}
 use Rattle.mig_listing.proofs.Members.{in_append_left, in_append_right, in_append}
 use Rattle.mig_schema.specs.Joins.{is_among}
@@ -13,21 +13,17 @@ use Rattle.mig_schema.specs.declared.programs.Joined.{Joined}
 use Rattle.mig_trees.specs.Joining.{joining, joining_at, or_first, next_joined, more_joined}
 use Rattle.mig_trees.proofs.Steps.{more-none, more-zero, more-some}
 
+-- there is none, or there is one
 pub cases_option : {A : Type 0} (o : Option A) → (o ≡ None) ⊎ ((x : A) × (o ≡ Some x))
 cases_option None = inl refl
 cases_option (Some x) = inr (x, refl)
 
+-- what is found among numbers is one of them
 pub among_to : (n : ℕ) (ns : List ℕ) → is_among n ns ≡ true → IsIn n ns
 among_to n [] e = absurd (false≢true e)
 among_to n (m ∷ ns) e = elim (or_cases _ _ e) [ inl h ↦ inl (sym (eqb-true m n h)) | inr h ↦ inr (among_to n ns h) ]
 
-pub or_left : (a b : Bool) → a ≡ true → (a || b) ≡ true
-or_left a b e = rw e refl
-
-pub or_right : (a b : Bool) → b ≡ true → (a || b) ≡ true
-or_right true b e = refl
-or_right false b e = e
-
+-- one of the numbers is found among them
 pub among_from : (n : ℕ) (ns : List ℕ) → IsIn n ns → is_among n ns ≡ true
 among_from n [] i = absurd i
 among_from n (m ∷ ns) i = elim i [
@@ -35,6 +31,7 @@ among_from n (m ∷ ns) i = elim i [
   | inr j ↦ or_right (eqb m n) (is_among n ns) (among_from n ns j)
 ]
 
+-- and among more of them
 pub among_more : (n : ℕ) (ns more : List ℕ) → is_among n ns ≡ true → is_among n (ns ++ more) ≡ true
 among_more n ns more e = among_from n (ns ++ more) (in_append_left ns more n (among_to n ns e))
 
@@ -116,15 +113,17 @@ joined_alike schema links part v closed (suc n) taken h j i = elim (cases_option
       ]
 ]
 
--- how many links have an end outside the tables taken
+-- both ends of the link are taken; nothing is left of a link that is not there
 abbrev pub is_done : List ℕ → Option Link → Bool
 is_done taken None = true
 is_done taken (Some l) = is_among l.left.table taken && is_among l.right.table taken
 
+-- how many links have an end outside the tables taken
 abbrev pub undone : Schema → List ℕ → List ℕ → ℕ
 undone schema taken [] = 0
 undone schema taken (n ∷ ns) = cond (is_done taken (slice_get schema.links n)) 0 1 + undone schema taken ns
 
+-- they are no more than the links
 pub undone_within : (schema : Schema) (taken ns : List ℕ) → undone schema taken ns ≤ length ns
 undone_within schema taken [] = omega arith
 undone_within schema taken (n ∷ ns) = let h = undone_within schema taken ns in elim (cases_Bool (is_done taken (slice_get schema.links n))) [
@@ -132,16 +131,19 @@ undone_within schema taken (n ∷ ns) = let h = undone_within schema taken ns in
   | inr e ↦ rw e (omega (arith, h))
 ]
 
+-- both ends of a link stay taken where more is
 pub done_more : (taken more : List ℕ) (o : Option Link) → is_done taken o ≡ true → is_done (taken ++ more) o ≡ true
 done_more taken more None e = refl
 done_more taken more (Some l) e = let parts = and_parts _ _ e in and_from _ _ (among_more l.left.table taken more parts.0) (among_more l.right.table taken more parts.1)
 
+-- what counts for the smaller number counts for the greater too
 pub one_less : (a b : Bool) (m n : ℕ) → (a ≡ true → b ≡ true) → m ≤ n → cond b 0 1 + m ≤ cond a 0 1 + n
 one_less true true m n h le = omega (arith, le)
 one_less true false m n h le = absurd (false≢true (h refl))
 one_less false true m n h le = omega (arith, le)
 one_less false false m n h le = omega (arith, le)
 
+-- where more is taken, no more links have an end outside
 pub undone_more : (schema : Schema) (taken more ns : List ℕ) → undone schema (taken ++ more) ns ≤ undone schema taken ns
 undone_more schema taken more [] = omega arith
 undone_more schema taken more (n ∷ ns) = one_less (is_done taken (slice_get schema.links n)) (is_done (taken ++ more) (slice_get schema.links n)) _ _ (done_more taken more (slice_get schema.links n)) (undone_more schema taken more ns)
@@ -153,6 +155,7 @@ was_undone taken l j e = elim (joins_from taken l j e) [
   | inr a ↦ (rw a.0 refl, and_from _ _ (among_from l.left.table (taken ++ j.table ∷ []) (in_append_right taken (j.table ∷ []) l.left.table (inl (sym a.2)))) (among_more l.right.table taken (j.table ∷ []) a.1))
 ]
 
+-- where a link joins a table, one link fewer has
 pub undone_less : (schema : Schema) (taken ns : List ℕ) (n : ℕ) (l : Link) (j : Joined) → IsIn n ns → slice_get schema.links n ≡ Some l → joining taken l ≡ Some j → undone schema (taken ++ j.table ∷ []) ns + 1 ≤ undone schema taken ns
 undone_less schema taken [] n l j i is e = absurd i
 undone_less schema taken (m ∷ ns) n l j i is e = elim i [
@@ -169,6 +172,7 @@ undone_less schema taken (m ∷ ns) n l j i is e = elim i [
       omega (arith, head)
 ]
 
+-- where none has, no link leaves the tables taken
 pub none_undone : (schema : Schema) (taken ns : List ℕ) → undone schema taken ns ≤ 0 → (n : ℕ) (l : Link) → IsIn n ns → slice_get schema.links n ≡ Some l → is_among l.left.table taken ≡ is_among l.right.table taken
 none_undone schema taken [] le n l i is = absurd i
 none_undone schema taken (m ∷ ns) le n l i is = elim (cases_Bool (is_done taken (slice_get schema.links m))) [

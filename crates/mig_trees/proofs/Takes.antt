@@ -20,6 +20,7 @@ use Rattle.mig_trees.proofs.Reach.{cases_option, among_to, among_from, next_by, 
 pub not_in : (n : ℕ) (ns : List ℕ) → is_among n ns ≡ false → IsIn n ns → ⊥
 not_in n ns f i = false≢true (sym f ∙ among_from n ns i)
 
+-- what is none of these is not found among them
 pub not_among : (n : ℕ) (ns : List ℕ) → (IsIn n ns → ⊥) → is_among n ns ≡ false
 not_among n ns out = elim (cases_Bool (is_among n ns)) [
   | inl t ↦ absurd (out (among_to n ns t))
@@ -39,6 +40,7 @@ joins_to taken l j e = elim (cases_Bool (is_among l.left.table taken)) [
   ]
 ]
 
+-- what joins by definition is what is computed
 pub joins_back : (taken : List ℕ) (l : Link) (j : Joined) → Joins l taken j → joining taken l ≡ Some j
 joins_back taken l j h = elim h [
   | inl a ↦
@@ -55,6 +57,7 @@ joins_back taken l j h = elim h [
 pub by_number : (schema : Schema) (links taken : List ℕ) (j : Joined) (n : ℕ) → JoinsBy schema links taken j n → joining_at taken (slice_get schema.links n) ≡ Some j
 by_number schema links taken j n h = ap (joining_at taken) h.2 ∙ joins_back taken h.1 j h.3
 
+-- a link of these for which a joined table is computed joins it
 pub of_number : (schema : Schema) (links taken : List ℕ) (j : Joined) (n : ℕ) → IsIn n links → joining_at taken (slice_get schema.links n) ≡ Some j → JoinsBy schema links taken j n
 of_number schema links taken j n i e = elim (cases_option (slice_get schema.links n)) [
   | inl none ↦ absurd (none-some j (sym (ap (joining_at taken) none) ∙ e))
@@ -65,6 +68,7 @@ of_number schema links taken j n i e = elim (cases_option (slice_get schema.link
 abbrev pub IsFirstJoined : Schema → List ℕ → List ℕ → Joined → Type 0
 IsFirstJoined schema links taken j = (n : ℕ) × (IsIn n links × (joining_at taken (slice_get schema.links n) ≡ Some j)) × ((m : ℕ) (k : Joined) → IsIn m links → joining_at taken (slice_get schema.links m) ≡ Some k → m < n → ⊥)
 
+-- so the first of rising links that joins a table is found
 pub first_joined : (schema : Schema) (taken links : List ℕ) (j : Joined) → Rises Less links → next_joined schema taken links ≡ Some j → IsFirstJoined schema links taken j
 first_joined schema taken [] j r e = absurd (none-some j e)
 first_joined schema taken (n ∷ ns) j r e = elim (cases_option (joining_at taken (slice_get schema.links n))) [
@@ -88,6 +92,7 @@ first_joined schema taken (n ∷ ns) j r e = elim (cases_option (joining_at take
       )
 ]
 
+-- so the least link is taken
 pub next_is_least : (schema : Schema) (taken links : List ℕ) (j : Joined) → Rises Less links → next_joined schema taken links ≡ Some j → IsNextJoined schema links taken j
 next_is_least schema taken links j r e =
     let first = first_joined schema taken links j r e in
@@ -112,6 +117,7 @@ all_joined schema links r (suc n) taken le = elim (cases_option (next_joined sch
       subst (AreJoined schema links taken) (sym (more-some n schema links taken some.0 some.1)) (next_is_least schema taken links some.0 r some.1, rest)
 ]
 
+-- tables of which there is one have a first one
 pub first_and_rest : (tables : List ℕ) (n : ℕ) → n + 1 ≡ length tables → (rest : List ℕ) × (tables ≡ slice_index_or tables 0 0 ∷ rest)
 first_and_rest [] n e = absurd (omega (arith, e))
 first_and_rest (x ∷ rest) n e = (rest, refl)
@@ -123,6 +129,7 @@ tree_written schema t is = record {
   joined = all_joined schema t.links is.rising_links (length t.links) (slice_index_or t.tables 0 0 ∷ []) (undone_within schema (slice_index_or t.tables 0 0 ∷ []) t.links);
 }
 
+-- and so is each of a list of them
 pub trees_written : (schema : Schema) (trees : List Tree) → ((t : Tree) → IsIn t trees → IsLinkTree schema t) → AreWritten schema trees (map (written schema) trees)
 trees_written schema [] h = tt
 trees_written schema (t ∷ ts) h = (tree_written schema t (h t (inl refl)), trees_written schema ts (λ s i. h s (inr i)))

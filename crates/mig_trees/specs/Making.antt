@@ -22,6 +22,7 @@ has_joined n join = (join.first == n) || is_taken n join.more
 abbrev pub covers : List ℕ → Join → Bool
 covers tables join = list_all (λ n. has_joined n join) tables
 
+-- tables and links as a tree
 abbrev pub tree_of : List ℕ → List ℕ → Tree
 tree_of tables links = record { tables = tables; links = links }
 

@@ -5,11 +5,10 @@ mod choosing;
 mod inside;
 mod laws;
 mod listing;
-mod lists;
 #[cfg(test)]
 mod tests;
 mod writing;
 
 pub use laws::one_answer;
 pub use listing::trees;
-pub use lists::{ColSets, TreeList};
+pub use mig_schema::{ColSets, TreeList};

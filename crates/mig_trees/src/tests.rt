@@ -173,3 +173,64 @@ fn trees_are_as_by_hand(rt: HostRuntime) -> Result<(), Fail> {
     }
     Ok(())
 }
+
+/// How 32 links join 16 tables.
+#[derive(Clone, Copy)]
+enum Shape {
+    Star,
+    Ring,
+    Dense,
+    Pair,
+}
+
+/// The number of link trees of one, two, three and four tables together. A star has links to its 15 points, three to
+/// two of them and two to each other; a ring has two between neighbours; the dense graph joins each table with those 1
+/// and 5 further on, so that no three of its links close a ring.
+const LARGE: [(Shape, usize); 4] = [
+    (Shape::Star, 16 + 32 + 477 + 4394),
+    (Shape::Ring, 16 + 32 + 64 + 128),
+    (Shape::Dense, 16 + 32 + 96 + (64 + 288)),
+    (Shape::Pair, 16 + 32),
+];
+
+fn ends(shape: Shape, k: u32) -> (u32, u32) {
+    match shape {
+        Shape::Star => (0, 1 + k % 15),
+        Shape::Ring => (k % 16, (k % 16 + 1) % 16),
+        Shape::Dense if k < 16 => (k, (k + 1) % 16),
+        Shape::Dense => (k % 16, (k % 16 + 5) % 16),
+        Shape::Pair => (0, 1),
+    }
+}
+
+fn large(alloc: Global, shape: Shape) -> Result<Schema, AllocError> {
+    let mut tables = Seq::new(alloc);
+    let mut links = Seq::new(alloc);
+    for k in 0..32 {
+        if k < 16 {
+            tables.push(Table {
+                name: Seq::new(alloc),
+                columns: Seq::new(alloc),
+            })?;
+        }
+        let (a, b) = ends(shape, k);
+        links.push(Link {
+            left: column(a, 0),
+            right: column(b, 0),
+        })?;
+    }
+    Ok(Schema { tables, links })
+}
+
+#[test]
+fn trees_of_the_largest_schemas(rt: HostRuntime) -> Result<(), Fail> {
+    let alloc = rt.alloc();
+    for (k, (shape, count)) in LARGE.iter().enumerate() {
+        let need = ColSets {
+            sets: Seq::new(alloc),
+        };
+        let list = trees(alloc, &large(alloc, *shape)?, &need)?;
+        assert!(rt; list.joins.len() == *count, "shape {k}");
+    }
+    Ok(())
+}
