@@ -1,0 +1,10 @@
+pub mod Anys
+pub mod Checks
+pub mod Finds
+pub mod Firsts
+pub mod OfPrograms
+pub mod OfHints
+pub mod Items
+pub mod Orders
+pub mod Parts
+pub mod OfSchemas

@@ -1,0 +1,4 @@
+pub mod Broken
+pub mod Classes
+pub mod First
+pub mod Seen
