@@ -10,3 +10,8 @@ pub mod Within
 pub mod Writing
 pub mod TypedWrites
 pub mod Steps
+pub mod Induction
+pub mod Renamings
+pub mod Supplies
+pub mod Alike
+pub mod Unequal

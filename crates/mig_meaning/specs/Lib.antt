@@ -2,10 +2,13 @@ pub mod Bags
 pub mod Calls
 pub mod Conditions
 pub mod Effect
+pub mod Equivalent
+pub mod Functions
 pub mod Holds
 pub mod Keys
 pub mod Law
 pub mod Lists
+pub mod Meeting
 pub mod Renaming
 pub mod Rows
 pub mod Run

@@ -20,7 +20,9 @@ mod values;
 
 pub use calling::{Answer, Args, Calls, Invocation, Keys, Reply};
 pub use equal::same_bag;
-pub use laws::{renamings_commute, states_stay};
+pub use laws::{
+    meeting_pairs_answer_alike, meeting_pairs_are_equivalent, renamings_commute, states_stay,
+};
 pub use relating::{Invariant, Invariants, View};
 pub use small::{Outcome, run_small};
 pub use states::{Placed, Row, State};
