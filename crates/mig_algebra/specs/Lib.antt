@@ -1,0 +1,10 @@
+pub mod Atoms
+pub mod Meaning
+pub mod Obligations
+pub mod Orders
+pub mod Proper
+pub mod Rename
+pub mod Scope
+pub mod Shown
+pub mod Sorted
+pub mod Tidied

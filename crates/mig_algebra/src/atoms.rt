@@ -21,7 +21,7 @@ pub enum Atom {
     Param(u32),
     /// The key of the call with this label, the same on both sides.
     Fresh(u32),
-    /// What a variable's row has in a column. A variable's number is its place among those in scope, the innermost first.
+    /// What a variable's row has in a column. A variable's number is its place among those in scope: the term's own first, in order, then those of each body around it, from the outside in.
     Col { var: u32, column: u32 },
 }
 

@@ -5,7 +5,7 @@ use crate::atoms::{Atom, Var};
 use mig_schema::{Exact, Op, Seq};
 use std::alloc::{AllocError, Global};
 
-/// A body: variables that it binds, and what their rows have to meet. Its own variables have the least numbers, then come those of what it stands in.
+/// A body: variables that it binds, and what their rows have to meet. Its own variables have the numbers after those of what it stands in.
 #[cycle(lit)]
 #[derive(Drop)]
 pub struct Inner {
