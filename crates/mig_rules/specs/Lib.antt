@@ -1,0 +1,11 @@
+pub mod Applying
+pub mod Folding
+pub mod Follow
+pub mod Forming
+pub mod Keeping
+pub mod Limits
+pub mod Obligations
+pub mod Replay
+pub mod Settings
+pub mod Shaped
+pub mod Unfolding

@@ -1,0 +1,17 @@
+pub mod Counted
+pub mod EarlierFits
+pub mod FoldKeeps
+pub mod FoldMade
+pub mod FoldReads
+pub mod FoldedFits
+pub mod FollowKeeps
+pub mod FollowProper
+pub mod InsertFits
+pub mod Named
+pub mod ProperObligations
+pub mod Reached
+pub mod Replayed
+pub mod Staged
+pub mod Stages
+pub mod Unfolds
+pub mod WrittenFits
