@@ -1,0 +1,3 @@
+pub mod SameTests
+pub mod Shown
+pub mod Unbroken
