@@ -3,12 +3,12 @@
 set -eu
 cd "$(dirname "$0")/.."
 measure=crates/measure/out/measure
-[ -x "$measure" ] || (cd crates/measure && rt run -- 16384 1 >/dev/null 2>&1)
+[ -x "$measure" ] || (cd crates/measure && rt run -- reading 16384 1 >/dev/null 2>&1)
 for size in 16384 65536 262144; do
-    "$measure" "$size" 20
+    "$measure" reading "$size" 20
 done
 work=$(mktemp -d)
 trap 'rm -rf "$work"' EXIT
-"$measure" 262144 >"$work/job"
+"$measure" reading 262144 >"$work/job"
 ./desk migrate "$work/job" >/dev/null 2>&1
 command time -f 'desk migrate: %e s, %M kB' ./desk migrate "$work/job" >/dev/null

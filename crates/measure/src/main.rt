@@ -1,64 +1,93 @@
-//! Makes plain jobs of a chosen size, and times how long they take to be read.
+//! Makes schemas, programs and jobs of a chosen size, and times what the crates do with them.
 //!
-//! `measure SIZE` writes a job of so many bytes; `measure SIZE TIMES` reads it so many times and reports the time on standard error.
+//! What was found stands on standard output, the time on standard error.
 #![tactic(auto)]
 
 mod making;
+mod reading;
+mod tidying;
+mod trees;
+mod typing;
 
-use making::job_of;
-use mig_schema::Bytes;
-use mig_syntax::read_job;
 use std::alloc::Global;
 use std::io::Write;
 use std::rt::Runtime;
-use std::time::Instant;
 use std::{env, io};
+use trees::Shape;
 
-/// The words behind the program's name that are numbers.
-fn numbers_of<R: Runtime + Alloc<A = Global>>(rt: &R) -> io::Result<Vec<u32>> {
+const USAGE: &str = "measure reading SIZE [TIMES]
+measure typing UPDATES TIMES
+measure tidying TERMS COMPARISONS TIMES
+measure star|chain|ring|dense|pair|four TIMES";
+
+/// What is to be measured.
+enum Task {
+    /// The writing of a plain job of so many bytes.
+    Write(u32),
+    /// The reading of such a job, so many times.
+    Read(u32, u32),
+    /// The typing of a program of so many updates, so many times.
+    Typing(u8, u32),
+    /// The tidying of a sum of so many terms, each of so many comparisons, so many times.
+    Tidying(u32, u32, u32),
+    /// The listing of link trees, so many times.
+    Trees(Shape, u32),
+}
+
+/// The shape of a name, if it is one.
+fn shape_of(name: &str) -> Option<Shape> {
+    match name {
+        "star" => Some(Shape::Star),
+        "chain" => Some(Shape::Chain),
+        "ring" => Some(Shape::Ring),
+        "dense" => Some(Shape::Dense),
+        "pair" => Some(Shape::Pair),
+        "four" => Some(Shape::Four),
+        _ => None,
+    }
+}
+
+/// What these words ask for, if they ask for anything.
+fn task_of(name: &str, numbers: &[u32]) -> Option<Task> {
+    match (name, numbers) {
+        ("reading", [size]) => Some(Task::Write(*size)),
+        ("reading", [size, times]) => Some(Task::Read(*size, *times)),
+        ("typing", [size, times]) => Some(Task::Typing(u8::try_from(*size).ok()?, *times)),
+        ("tidying", [count, comparisons, times]) => {
+            Some(Task::Tidying(*count, *comparisons, *times))
+        }
+        (_, [times]) => Some(Task::Trees(shape_of(name)?, *times)),
+        _ => None,
+    }
+}
+
+/// What the words behind the program's name ask for, if they ask for anything.
+fn asked<R: Runtime + Alloc<A = Global>>(rt: &R) -> io::Result<Option<Task>> {
+    let mut words = env::args(rt)?.skip(1);
+    let Some(name) = words.next() else {
+        return Ok(None);
+    };
     let mut numbers = Vec::new(rt.alloc());
-    for word in env::args(rt)?.skip(1) {
+    for word in words {
         if let Ok(number) = word.parse::<u32>() {
             numbers.push(number)?;
         }
     }
-    Ok(numbers)
-}
-
-/// How many functions the job has that these bytes spell, if they spell one.
-fn functions_read(alloc: Global, bytes: &Bytes) -> Option<usize> {
-    match read_job(alloc, bytes.as_slice()) {
-        Ok(job) => Some(job.program.functions.len()),
-        Err(_) => None,
-    }
-}
-
-/// Reads the job so many times, and reports.
-fn timed<R: Runtime + Alloc<A = Global>>(rt: &R, bytes: &Bytes, times: u32) -> io::Result<()> {
-    let start = Instant::now(rt)?;
-    let mut functions = None;
-    for _ in 0..times {
-        functions = functions_read(rt.alloc(), bytes);
-    }
-    let spent = start.elapsed(rt)?.as_micros();
-    match functions {
-        Some(count) => println!(rt;
-            "{} bytes: {count} functions, read {times} times",
-            bytes.len()
-        )?,
-        None => println!(rt; "{} bytes: no job", bytes.len())?,
-    }
-    eprintln!(rt; "{spent} microseconds in all")
+    Ok(task_of(name.as_str(), numbers.as_slice()))
 }
 
 fn main(rt: HostRuntime) -> io::Result<()> {
-    let numbers = numbers_of(&rt)?;
-    match numbers.as_slice() {
-        [size] => {
-            let bytes = job_of(rt.alloc(), *size as usize)?;
+    match asked(&rt)? {
+        Some(Task::Write(size)) => {
+            let bytes = making::job_of(rt.alloc(), size as usize)?;
             rt.stdout().write_all(bytes.as_slice())
         }
-        [size, times] => timed(&rt, &job_of(rt.alloc(), *size as usize)?, *times),
-        _ => println!(rt; "measure SIZE [TIMES]"),
+        Some(Task::Read(size, times)) => reading::time(&rt, size, times),
+        Some(Task::Typing(size, times)) => typing::time(&rt, size, times),
+        Some(Task::Tidying(count, comparisons, times)) => {
+            tidying::time(&rt, count, comparisons, times)
+        }
+        Some(Task::Trees(shape, times)) => trees::time(&rt, shape, times),
+        None => println!(rt; "{USAGE}"),
     }
 }
