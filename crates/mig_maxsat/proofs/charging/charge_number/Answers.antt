@@ -1,0 +1,10 @@
+use Rattle.std.proofs.Common.{w64, SFits, Any, sym, subst, rules}
+use Rattle.std.proofs.lemmas.Int.{to_z-of_z}
+use Rattle.mig_sat.specs.Models.{HoldsLit}
+use Rattle.mig_sat.proofs.Following.{clause_got}
+use Rattle.mig_maxsat.proofs.charging.charge_number.Goals as goal
+
+pub returns-in-Some-clause-charged : goal.returns-in-Some-clause-charged
+returns-in-Some-clause-charged c =
+    let fits : SFits w64 c.charge.result = search rules in
+    rw (to_z-of_z w64 c.charge.result fits) (λ m is f. c.charge.ensures.charged m f (subst (Any (HoldsLit m)) (sym c.as_slice.ensures) (clause_got c.args.problem.now.hard m c.args.number c.in-Some.clause.now is (sym c.in-Some.ensures.value))))

@@ -1,0 +1,10 @@
+use Rattle.std.proofs.Common.{ℕ, ◌<◌, ◌^◌, ◌≤ℤ◌, pos, get_or}
+use Rattle.mig_sat.specs.declared.clauses.SatLit.{SatLit}
+use Rattle.mig_maxsat.specs.Bounds.{CostsLit}
+use Rattle.mig_maxsat.proofs.charging.cost.Given as goal
+
+abbrev pub invariant-loop-lit : goal.invariant-loop-lit
+invariant-loop-lit l = record {
+  most : l.cost ≤ℤ pos (2 ^ 62);
+  costs : (k : ℕ) (d : SatLit) → k < l.lit-index → CostsLit l.trail.steps l.weights l.cost (get_or l.clause k d);
+}

@@ -1,0 +1,5 @@
+use Rattle.mig_maxsat.proofs.Paying.{Pays}
+use Rattle.mig_maxsat.proofs.charging.pay_all.Given as goal
+
+abbrev pub invariant-loop-lit : goal.invariant-loop-lit
+invariant-loop-lit l = Pays l.trail.steps l.clause l.cost l.fn.weights l.weights l.lit-index

@@ -1,0 +1,4 @@
+pub mod Found
+pub mod Models
+pub mod Steps
+pub mod TrailInside
