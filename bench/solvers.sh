@@ -1,0 +1,97 @@
+#!/usr/bin/env bash
+# Times `dimacs cnf` on random clauses and on a chooser's problem. Where there is clasp, it is told to decide in order and timed beside it:
+# then the ratio is printed too, and whether both give the same model.
+set -eu
+cd "$(dirname "$0")/.."
+dimacs=crates/dimacs/out/dimacs
+# `rt run` builds the program anew where it is older than its sources.
+(cd crates/dimacs && rt run -- wcnf <stdin >/dev/null 2>&1) || {
+    echo "dimacs could not be built: 'rt all check' says why" >&2
+    exit 1
+}
+work=$(mktemp -d)
+trap 'rm -rf "$work"' EXIT
+
+# Three different variables a clause, 4.26 clauses a variable.
+random() {
+    awk -v n="$1" -v seed="$2" 'BEGIN {
+        srand(seed); m = int(4.26 * n + 0.5); print "p cnf", n, m
+        for (i = 0; i < m; i++) {
+            a = int(rand() * n) + 1
+            do b = int(rand() * n) + 1; while (b == a)
+            do c = int(rand() * n) + 1; while (c == a || c == b)
+            print (rand() < 0.5 ? -a : a), (rand() < 0.5 ? -b : b), (rand() < 0.5 ? -c : c), 0
+        }
+    }'
+}
+
+# 12 holes with one of 10 options each, and 500 blocks of an option in each of two to four holes.
+chooser() {
+    awk -v seed="$1" 'BEGIN {
+        srand(seed); print "p cnf 120", 12 + 12 * 45 + 500
+        for (h = 0; h < 12; h++) {
+            for (o = 1; o <= 10; o++) printf "%d ", 10 * h + o
+            print 0
+            for (o = 1; o <= 10; o++) for (q = o + 1; q <= 10; q++) print -(10 * h + o), -(10 * h + q), 0
+        }
+        for (i = 0; i < 500; i++) {
+            split("", taken)
+            for (k = 2 + int(rand() * 3); k > 0; k--) {
+                do h = int(rand() * 12); while (h in taken)
+                taken[h] = 1
+                printf "%d ", -(10 * h + int(rand() * 10) + 1)
+            }
+            print 0
+        }
+    }'
+}
+
+# The least elapsed seconds of nine runs; of one, where it takes more than a second.
+seconds() {
+    local least=1000 start took run
+    for run in 1 2 3 4 5 6 7 8 9; do
+        start=$EPOCHREALTIME
+        timeout 300 "$@" <"$work/cnf" >"$work/answer" 2>/dev/null || true
+        took=$(awk -v a="$start" -v b="$EPOCHREALTIME" 'BEGIN { printf "%.4f", b - a }')
+        least=$(awk -v a="$least" -v b="$took" 'BEGIN { print (b < a) ? b : a }')
+        if awk -v a="$took" 'BEGIN { exit !(a > 1) }'; then break; fi
+    done
+    echo "$least"
+}
+
+# The true literals, one a line, and the verdict.
+plain() {
+    awk '$1 == "s" { verdict = $2 } $1 == "v" { for (i = 2; i <= NF; i++) if ($i != 0) print $i } END { print verdict }' "$work/answer"
+}
+
+# Seconds of clasp behind those of dimacs, their ratio, and whether the answers are the same.
+beside() {
+    local theirs same=same
+    theirs=$(seconds clasp --heuristic=None --sign-def=pos --sign-fix --sat-prepro=no --save-progress=0)
+    plain >"$work/theirs"
+    cmp -s "$work/ours" "$work/theirs" || same=DIFFERENT
+    awk -v a="$1" -v b="$theirs" -v same="$same" 'BEGIN { printf " %9.4f s  ratio %8.1f  %s", b, a / b, same }'
+}
+
+compare() {
+    local ours
+    ours=$(seconds "$dimacs" cnf)
+    plain >"$work/ours"
+    printf '%-22s %-14s %9.4f s' "$1" "$(tail -n 1 "$work/ours")" "$ours"
+    if command -v clasp >/dev/null; then beside "$ours"; fi
+    echo
+}
+
+echo "problem                answer              dimacs       clasp"
+echo "p cnf 0 0" >"$work/cnf"
+compare "no clauses (starting)"
+for n in 40 60 80 120; do
+    for seed in 1 2 3; do
+        random "$n" "$seed" >"$work/cnf"
+        compare "random $n, seed $seed"
+    done
+done
+for seed in 1 2 3; do
+    chooser "$seed" >"$work/cnf"
+    compare "chooser, seed $seed"
+done

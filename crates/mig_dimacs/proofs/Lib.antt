@@ -1,0 +1,10 @@
+pub mod Balance
+pub mod Digits
+pub mod Ending
+pub mod Fronts
+pub mod InRange
+pub mod Reaching
+pub mod Running
+pub mod SoftRange
+pub mod Softs
+pub mod Sounding

@@ -1,0 +1,9 @@
+pub mod Answers
+pub mod Costs
+pub mod Formulas
+pub mod Gains
+pub mod Optimum
+pub mod Reading
+pub mod Softs
+pub mod Texts
+pub mod Words
