@@ -1,0 +1,9 @@
+pub mod Answered
+pub mod Assembled
+pub mod EntryPlaces
+pub mod InPairs
+pub mod Joined
+pub mod Loops
+pub mod NowhereBroken
+pub mod OneVerdict
+pub mod Walks

@@ -1,0 +1,46 @@
+// Tables and columns by their numbers.
+ghost use Rattle.std.specs.Prelude.{◌≡◌};
+ghost use Rattle.mig_schema.specs.Columns as spec;
+
+use mig_schema::{ColId, Column, Kind, Schema};
+
+/// The columns of table t; none where there is no such table.
+pub(crate) fn columns_of(schema: &Schema, t: u32) -> &[Column]
+    ensures { result.now ≡ spec.columns_of schema.now t }
+{
+    match schema.tables.get(t as usize) {
+        Some(table) => table.columns.as_slice(),
+        None => &[],
+    }
+}
+
+/// Whether the schema has a table of this number.
+pub(crate) fn has_table(schema: &Schema, t: u32) -> bool
+    ensures { result ≡ spec.has_table schema.now t }
+{
+    (t as usize) < schema.tables.len()
+}
+
+/// Whether the schema has a column of these numbers.
+pub(crate) fn has_column(schema: &Schema, id: ColId) -> bool
+    ensures { result ≡ spec.has_column schema.now id }
+{
+    has_table(schema, id.table) && (id.column as usize) < columns_of(schema, id.table).len()
+}
+
+/// The kind of a column; int where there is none.
+pub(crate) fn kind_of(schema: &Schema, id: ColId) -> Kind
+    ensures { result ≡ spec.kind_of schema.now id }
+{
+    match columns_of(schema, id.table).get(id.column as usize) {
+        Some(column) => column.kind,
+        None => Kind::Int,
+    }
+}
+
+/// Whether two kinds are one.
+pub(crate) fn same_kind(left: Kind, right: Kind) -> bool
+    ensures { result ≡ spec.same_kind left right }
+{
+    left == right
+}
