@@ -1,2 +1,4 @@
 pub mod Desk
+pub mod Headline
 pub mod Renaming
+pub mod Spellable

@@ -7,6 +7,8 @@ mod ending;
 mod planning;
 mod renaming;
 #[cfg(test)]
+mod size_tests;
+#[cfg(test)]
 mod tests;
 mod top;
 mod wording;

@@ -1,12 +1,15 @@
 // What is to be put for a file, and the status that the desk ends with.
 ghost use Rattle.std.specs.Prelude.{◌≡◌, ◌≢◌, ◌<◌, ◌≤◌, ◌++◌, ◌∷◌, [], ◌⊎◌, List, ℕ, Some, IfOk, length};
 ghost use Rattle.mig_io.specs.Counts.{Rose};
+ghost use Rattle.mig_schema.specs.Plain.{IsPlain};
+ghost use Rattle.mig_schema.specs.Typed.{IsTyped};
 ghost use Rattle.mig_cli.specs.Desk as spec;
 
 use crate::certifying::certified;
 use crate::renaming::renamed;
 use crate::wording::line_of;
 use mig_certificate::print_answer;
+use mig_checker::{Verdict, check};
 use mig_io::{FetchFault, Files};
 use mig_schema::{Bytes, Job, Seq, Txt, Word};
 use mig_syntax::{TextFault, read_job};
@@ -36,13 +39,18 @@ pub fn refusal(alloc: Global, status: u8, report: Txt) -> Plan
     }
 }
 
-/// The answer to a plain job.
+/// The answer to a plain job. The checker accepts what is made of each plain job, and nothing else is written.
 fn answer_of(alloc: Global, job: &Job) -> Result<Txt, AllocError>
+    requires plain { IsPlain job.now }
+    requires typed { IsTyped job.now }
     ensures { IfOk result (λ t. t ≡ spec.answer job.now) }
 {
     let program = renamed(alloc, job)?;
     let certificate = certified(alloc, job)?;
-    print_answer(alloc, job, &program, &certificate)
+    match check(alloc, job, &program, &certificate)? {
+        Verdict::Accepted => print_answer(alloc, job, &program, &certificate),
+        Verdict::Rejected { .. } => unreachable!(),
+    }
 }
 
 /// The plan for bytes that spell no plain job.
@@ -57,6 +65,8 @@ fn unread_plan(alloc: Global, file: &Word, fault: TextFault) -> Result<Plan, All
 
 /// The plan for a plain job.
 fn done_plan(alloc: Global, job: &Job) -> Result<Plan, AllocError>
+    requires plain { IsPlain job.now }
+    requires typed { IsTyped job.now }
     ensures { IfOk result (λ p. (p.status ≡ 0) × (p.text ≡ spec.answer job.now) × (p.report ≡ spec.found)) }
 {
     Ok(Plan {

@@ -2,6 +2,7 @@
 ghost use Rattle.std.specs.Prelude.{◌≡◌, ◌≢◌, ◌≤◌, ◌++◌, ◌∷◌, [], ◌⊎◌, List, ℕ, None, Some, IfOk};
 ghost use Rattle.mig_io.specs.Counts.{Rose};
 ghost use Rattle.mig_cli.specs.Desk as spec;
+ghost use Rattle.mig_cli.specs.Headline.{Migrates};
 
 use crate::ending::finish;
 use crate::planning::{Plan, fetched_plan, refusal};
@@ -49,6 +50,9 @@ pub fn desk<F: Files, W: Sink, E: Sink>(
     out: &mut W,
     err: &mut E,
 ) -> u8
+    // Where it ends with 0, `out` took a new program that does what the old one did, and a valid certificate of it.
+    ensures migrates { Migrates (F.told files.old) words.now result (W.took out.old) (W.took out.new) }
+
     // Right answers: whatever failed, a status other than 6, 7 and 8 is that of the outcome, which was put whole.
     ensures right { spec.Right (F.told files.old) words.now result (W.took out.old) (W.took out.new) (E.took err.old) (E.took err.new) }
 

@@ -1,10 +1,14 @@
 use Rattle.mig_cli.proofs.Ended.{right, complete, under_way, short}
+use Rattle.mig_cli.proofs.Migrated.{right-migrates}
 use Rattle.mig_cli.proofs.top.desk.Goals as goal
 
 pub returns-in-Ok-clause-right : goal.returns-in-Ok-clause-right
 returns-in-Ok-clause-right g c =
     right _ _ c.in-Ok.plan.status c.finish.result c.in-Ok.plan.text c.in-Ok.plan.report _ _ _ _ c.finish.ensures.status
     (λ e. rw (c.as_slice.ensures, c.as_slice-in-Ok.ensures) at (c.finish.ensures.whole e)) c.in-Ok.ensures.right
+
+pub returns-in-Ok-clause-migrates : goal.returns-in-Ok-clause-migrates
+returns-in-Ok-clause-migrates g c = right-migrates _ _ _ _ _ _ _ (returns-in-Ok-clause-right g c)
 
 pub returns-in-Ok-clause-complete : goal.returns-in-Ok-clause-complete
 returns-in-Ok-clause-complete g c =

@@ -1,0 +1,37 @@
+-- What the desk is for: the new program that it writes does what the old one did.
+use Rattle.std.specs.Prelude.{◌≡◌, ℕ, List, Option, Some}
+use Rattle.mig_schema.specs.declared.programs.Program.{Program}
+use Rattle.mig_schema.specs.declared.jobs.Job.{Job}
+use Rattle.mig_schema.specs.Typed.{IsTyped, IsTypedProgram}
+use Rattle.mig_syntax.specs.Job.{IsJobText}
+use Rattle.mig_meaning.specs.Functions.{SameFunctions}
+use Rattle.mig_meaning.specs.Equivalent.{IsEquivalent}
+use Rattle.mig_certificate.specs.declared.proofs.Certificate.{Certificate}
+use Rattle.mig_certificate.specs.AnswerText.{answer_text}
+use Rattle.mig_certificate.specs.Valid.{IsValid}
+use Rattle.mig_io.specs.Taken.{and_then}
+use Rattle.mig_cli.specs.Desk.{file_word, Tells}
+use Rattle.mig_cli.specs.Spellable.{IsSpellable}
+
+-- A text is a migration of the job that these bytes spell: the answer with a new program and a certificate.
+-- The grammar of answers spells both; the new program is typed over the new schema and has the old one's functions; the certificate is valid; and for every list of
+-- well-formed calls, from empty tables and by any two supplies of keys, each query has the same bag of rows as answer under
+-- both programs, fresh keys renamed alike, and every invariant of the certificate holds after each call.
+pub record IsMigration (bytes text : List ℕ) : Type 0 where
+  pub job : Job
+  pub program : Program
+  pub certificate : Certificate
+  pub spelled : IsJobText bytes job
+  pub source : IsTyped job
+  pub written : text ≡ answer_text job program certificate
+  pub target : IsTypedProgram job.target program
+  pub spellable : IsSpellable program certificate
+  pub functions : SameFunctions job.source job.target job.program program
+  pub valid : IsValid job program certificate
+  pub equivalent : IsEquivalent job.source job.target job.program program certificate.invariants.list
+
+-- Where files tell what they hold: with status 0, `out` took a migration of the job in the file that the words name, whole.
+abbrev pub Migrates : (told : List ℕ → Option (List ℕ)) → (words : List (List ℕ)) → (status : ℕ) → (out out' : Option (List ℕ)) → Type 0
+Migrates told words status out out' =
+    Tells told words → status ≡ 0
+    → (file : List ℕ) × (bytes : List ℕ) × (text : List ℕ) × (file_word words ≡ Some file) × (told file ≡ Some bytes) × (out' ≡ and_then out text) × IsMigration bytes text
