@@ -1,0 +1,9 @@
+pub mod Changes
+pub mod Faulty
+pub mod Layout
+pub mod Meaning
+pub mod Order
+pub mod Places
+pub mod Props
+pub mod Slots
+pub mod VecMeaning
