@@ -20,4 +20,5 @@ pub use fault_store::FaultStore;
 pub use faults::StoreFault;
 pub use laws::memory_never_fails;
 pub use store::Store;
+pub use values::value_eq;
 pub use vec_store::VecStore;

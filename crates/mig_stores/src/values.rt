@@ -8,8 +8,8 @@ use mig_meaning::Row;
 use mig_schema::{Exact, Seq, Value, same_text};
 use std::alloc::{AllocError, Global};
 
-/// Whether two values are one. Values of different kinds differ.
-pub(crate) fn value_eq(left: &Value, right: &Value) -> bool
+/// Whether two values are one. Values of different kinds differ. It takes no memory.
+pub fn value_eq(left: &Value, right: &Value) -> bool
     ensures { result ≡ spec.value_eq left.now right.now }
 {
     match (left, right) {

@@ -1,0 +1,107 @@
+// The rows of a join, table after table.
+ghost use Rattle.std.specs.Prelude.{◌≡◌, ℕ, ◌<◌, ◌∷◌, ◌++◌, [], true, false, map, Option, Some, IfOk, OnOk};
+ghost use Rattle.mig_schema.specs.Joins as joins;
+ghost use Rattle.mig_meaning.specs.declared.states.Placed.{Placed as PlacedRow};
+ghost use Rattle.mig_meaning.specs.declared.states.State.{State};
+ghost use Rattle.mig_meaning.specs.Lists.{Each};
+ghost use Rattle.mig_stores.specs.Layout.{kinds_at, of_kinds};
+ghost use Rattle.mig_stores.specs.Meaning.{IsSound, Keeps};
+ghost use Rattle.mig_calls.specs.Fits.{ChoiceFits, JoinFits, JoinedFits};
+ghost use Rattle.mig_calls.specs.Joining as spec;
+
+use crate::conditions::{JoinRow, column_in};
+use mig_meaning::Placed;
+use mig_schema::{Exact, Join, Joined, Seq};
+use mig_stores::{Store, StoreFault};
+use std::alloc::{AllocError, Global};
+
+/// The joined tables, in order.
+pub(crate) fn tables_of(alloc: Global, join: &Join) -> Result<Vec<u32>, AllocError>
+    ensures { IfOk result (λ v. v.items ≡ joins.tables_of join.now) }
+{
+    let mut tables = Vec::new(alloc);
+    tables.push(join.first)?;
+    for joined in join.more.as_slice() {
+        tables.push(joined.table)?;
+    }
+    Ok(tables)
+}
+
+/// Puts the choice, with each of these rows behind it, behind the others.
+fn put_longer(
+    alloc: Global,
+    choice: &JoinRow,
+    rows: Seq<Placed>,
+    all: &mut Vec<JoinRow>,
+) -> Result<(), AllocError>
+    ensures { OnOk result (all.new.items ≡ all.old.items ++ map (λ (p : PlacedRow). choice.now ++ p ∷ []) rows) }
+{
+    for row in rows.into_vec() {
+        let mut longer = choice.twin(alloc)?;
+        longer.push(row)?;
+        all.push(longer)?;
+    }
+    Ok(())
+}
+
+/// Each choice of rows of earlier tables with each row of a further one that meets its equality.
+fn grown<S: Store>(
+    alloc: Global,
+    store: &mut S,
+    earlier: &[u32],
+    joined: &Joined,
+    choices: &[JoinRow],
+) -> Result<Vec<JoinRow>, StoreFault>
+    requires joined { JoinedFits (S.meaning store.old).layout earlier.now joined.now }
+    requires choices { Each (ChoiceFits (S.meaning store.old).layout earlier.now) choices.now }
+    requires whole { (S.meaning store.old).broken ≡ false }
+    ensures sound { IsSound (S.meaning store.old) (S.meaning store.new) result }
+    ensures keeps { Keeps (S.meaning store.old) (S.meaning store.new) }
+    ensures fit { IfOk result (λ v. Each (ChoiceFits (S.meaning store.old).layout (earlier.now ++ joined.now.table ∷ [])) v.items) }
+    ensures rows { IfOk result (λ v. (s : State) → (S.meaning store.old).told ≡ Some s → v.items ≡ spec.grown s earlier.now joined.now choices.now) }
+{
+    let mut all = Vec::new(alloc);
+    for choice in choices {
+        let value = column_in(alloc, earlier, choice.as_slice(), joined.left)?;
+        let rows = store.matching(alloc, joined.table, joined.right.column, &value)?;
+        put_longer(alloc, choice, rows, &mut all)?;
+    }
+    Ok(all)
+}
+
+/// The choices of one row each.
+fn singles(alloc: Global, rows: Seq<Placed>) -> Result<Vec<JoinRow>, AllocError>
+    ensures { IfOk result (λ v. v.items ≡ map (λ (p : PlacedRow). p ∷ []) rows) }
+{
+    let mut all = Vec::new(alloc);
+    for row in rows.into_vec() {
+        let mut single = Seq::new(alloc);
+        single.push(row)?;
+        all.push(single)?;
+    }
+    Ok(all)
+}
+
+/// The choices of one row of each joined table that meet the equalities and begin with these rows of the first table.
+pub(crate) fn choices_from<S: Store>(
+    alloc: Global,
+    store: &mut S,
+    join: &Join,
+    first: Seq<Placed>,
+) -> Result<Vec<JoinRow>, StoreFault>
+    requires join { JoinFits (S.meaning store.old).layout join.now }
+    requires first { Each (λ (p : PlacedRow). of_kinds (kinds_at (S.meaning store.old).layout join.now.first) p.row.values ≡ true) first }
+    requires whole { (S.meaning store.old).broken ≡ false }
+    ensures sound { IsSound (S.meaning store.old) (S.meaning store.new) result }
+    ensures keeps { Keeps (S.meaning store.old) (S.meaning store.new) }
+    ensures rows { IfOk result (λ v. (s : State) → (S.meaning store.old).told ≡ Some s → v.items ≡ spec.grown_all s (join.now.first ∷ []) join.now.more (map (λ (p : PlacedRow). p ∷ []) first)) }
+{
+    let mut tables = Seq::new(alloc);
+    tables.push(join.first)?;
+    let mut choices = singles(alloc, first)?;
+    for joined in join.more.as_slice() {
+        choices = grown(alloc, store, tables.as_slice(), joined, choices.as_slice())?;
+        tables.push(joined.table)?;
+    }
+    Ok(choices)
+}

@@ -1,0 +1,120 @@
+// The rows of a join's first table that a condition may be true of.
+ghost use Rattle.std.specs.Prelude.{◌≡◌, ℕ, ◌<◌, true, false, Option, Some, IfOk, IfSome};
+ghost use Rattle.mig_schema.specs.Joins as joins;
+ghost use Rattle.mig_meaning.specs.declared.states.Placed.{Placed as PlacedRow};
+ghost use Rattle.mig_meaning.specs.declared.states.State.{State};
+ghost use Rattle.mig_meaning.specs.Conditions as conditions;
+ghost use Rattle.mig_meaning.specs.Lists.{Each};
+ghost use Rattle.mig_stores.specs.Layout.{kinds_at, of_kinds};
+ghost use Rattle.mig_stores.specs.Meaning.{IsSound, Keeps};
+ghost use Rattle.mig_calls.specs.Fits.{CasesFit, JoinFits};
+ghost use Rattle.mig_calls.specs.Joining.{IsCover};
+ghost use Rattle.mig_calls.specs.Pins.{CasePins, CasesPin, IsPin};
+ghost use Rattle.mig_calls.specs.Told.{given_told};
+
+use crate::given::{Given, scalar_value};
+use mig_meaning::Placed;
+use mig_schema::{Cmp, ColId, Cond, Item, Join, Op, Scalar, Seq, Value};
+use mig_stores::{Store, StoreFault};
+use std::alloc::{AllocError, Global};
+
+/// A column and the value that is asked of it.
+#[derive(Debug, Drop)]
+struct Pin {
+    column: u32,
+    value: Value,
+}
+
+/// The column, if it is one of table t, with the value of the scalar.
+fn pinned(
+    alloc: Global,
+    given: &Given<'_>,
+    t: u32,
+    column: ColId,
+    scalar: &Scalar,
+) -> Result<Option<Pin>, AllocError>
+    ensures table { IfOk result (λ o. IfSome o (λ p. column.table ≡ t)) }
+    ensures column { IfOk result (λ o. IfSome o (λ p. column.column ≡ p.column)) }
+    ensures value { IfOk result (λ o. IfSome o (λ p. p.value ≡ conditions.scalar_value (given_told given.now) scalar.now)) }
+{
+    if column.table == t {
+        let value = scalar_value(alloc, given, scalar)?;
+        Ok(Some(Pin {
+            column: column.column,
+            value,
+        }))
+    } else {
+        Ok(None)
+    }
+}
+
+/// The column of table t that the comparison asks to be equal to a value, if it does.
+fn cmp_pin(alloc: Global, given: &Given<'_>, t: u32, cmp: &Cmp) -> Result<Option<Pin>, AllocError>
+    ensures { IfOk result (λ o. IfSome o (λ p. IsPin (given_told given.now) t p.column p.value cmp.now)) }
+{
+    if cmp.op != Op::Eq {
+        return Ok(None);
+    }
+    match (&cmp.left, &cmp.right) {
+        (Item::Col(c), Item::Scalar(x)) => pinned(alloc, given, t, *c, x),
+        (Item::Scalar(x), Item::Col(c)) => pinned(alloc, given, t, *c, x),
+        (Item::Col(_), Item::Col(_)) => Ok(None),
+        (Item::Scalar(_), Item::Scalar(_)) => Ok(None),
+    }
+}
+
+/// The first column of table t that the case asks to be equal to a value.
+fn case_pin(
+    alloc: Global,
+    given: &Given<'_>,
+    t: u32,
+    case: &[Cmp],
+) -> Result<Option<Pin>, AllocError>
+    ensures { IfOk result (λ o. IfSome o (λ p. CasePins (given_told given.now) t p.column p.value case.now)) }
+{
+    match case {
+        [] => Ok(None),
+        [cmp, more @ ..] => match cmp_pin(alloc, given, t, cmp)? {
+            Some(found) => Ok(Some(found)),
+            None => case_pin(alloc, given, t, more),
+        },
+    }
+}
+
+/// The first column of table t that the condition asks to be equal to a value, where it has one case.
+fn cases_pin(
+    alloc: Global,
+    given: &Given<'_>,
+    t: u32,
+    cases: &[Seq<Cmp>],
+) -> Result<Option<Pin>, AllocError>
+    ensures { IfOk result (λ o. IfSome o (λ p. CasesPin (given_told given.now) t p.column p.value cases.now)) }
+{
+    match cases {
+        [case] => case_pin(alloc, given, t, case.as_slice()),
+        _ => Ok(None),
+    }
+}
+
+/// The rows of the first table that may begin a join row which meets the condition: those that have the value which
+/// the condition asks of a column, or all rows where it asks none.
+pub(crate) fn first_rows<S: Store>(
+    alloc: Global,
+    store: &mut S,
+    given: &Given<'_>,
+    join: &Join,
+    cond: &Cond,
+) -> Result<Seq<Placed>, StoreFault>
+    requires join { JoinFits (S.meaning store.old).layout join.now }
+    requires cases { CasesFit (S.meaning store.old).layout (given_told given.now) (joins.tables_of join.now) cond.now.cases }
+    requires whole { (S.meaning store.old).broken ≡ false }
+    ensures sound { IsSound (S.meaning store.old) (S.meaning store.new) result }
+    ensures keeps { Keeps (S.meaning store.old) (S.meaning store.new) }
+    ensures kinds { IfOk result (λ rows. Each (λ (p : PlacedRow). of_kinds (kinds_at (S.meaning store.old).layout join.now.first) p.row.values ≡ true) rows) }
+    ensures cover { IfOk result (λ rows. (s : State) → (S.meaning store.old).told ≡ Some s → IsCover (given_told given.now) s join.now cond.now.cases rows) }
+{
+    match cases_pin(alloc, given, join.first, cond.cases.as_slice())? {
+        Some(pin) => store.matching(alloc, join.first, pin.column, &pin.value),
+        None => store.rows(alloc, join.first),
+    }
+}
