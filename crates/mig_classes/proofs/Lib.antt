@@ -1,0 +1,10 @@
+pub mod Classed
+pub mod Contradicted
+pub mod Forested
+pub mod FreshKeys
+pub mod Giving
+pub mod Grouped
+pub mod Passing
+pub mod Rising
+pub mod Written
+pub mod WrittenProper

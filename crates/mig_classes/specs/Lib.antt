@@ -1,0 +1,7 @@
+pub mod Classes
+pub mod Forests
+pub mod Given
+pub mod Keys
+pub mod Laws
+pub mod Substituted
+pub mod Worked
