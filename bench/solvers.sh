@@ -46,17 +46,24 @@ chooser() {
     }'
 }
 
-# The least elapsed seconds of nine runs; of one, where it takes more than a second.
+# Seconds of processor time, user and system, for one run: nine together by nine, or a single one where the first takes more than a second.
 seconds() {
-    local least=1000 start took run
-    for run in 1 2 3 4 5 6 7 8 9; do
-        start=$EPOCHREALTIME
+    local TIMEFORMAT='%U %S' runs=1 used
+    used=$({ time ask 1 "$@"; } 2>&1)
+    if awk '{ exit !($1 + $2 < 1) }' <<<"$used"; then
+        runs=9
+        used=$({ time ask "$runs" "$@"; } 2>&1)
+    fi
+    awk -v runs="$runs" '{ printf "%.4f", ($1 + $2) / runs }' <<<"$used"
+}
+
+# Asks so many times for the answer, of which the last one is kept.
+ask() {
+    local runs=$1 run
+    shift
+    for ((run = 0; run < runs; run++)); do
         timeout 300 "$@" <"$work/cnf" >"$work/answer" 2>/dev/null || true
-        took=$(awk -v a="$start" -v b="$EPOCHREALTIME" 'BEGIN { printf "%.4f", b - a }')
-        least=$(awk -v a="$least" -v b="$took" 'BEGIN { print (b < a) ? b : a }')
-        if awk -v a="$took" 'BEGIN { exit !(a > 1) }'; then break; fi
     done
-    echo "$least"
 }
 
 # The true literals, one a line, and the verdict.
