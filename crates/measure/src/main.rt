@@ -3,12 +3,14 @@
 //! What was found stands on standard output, the time on standard error.
 #![tactic(auto)]
 
+mod classes;
 mod making;
 mod reading;
 mod tidying;
 mod trees;
 mod typing;
 
+use classes::Ties;
 use std::alloc::Global;
 use std::io::Write;
 use std::rt::Runtime;
@@ -18,6 +20,7 @@ use trees::Shape;
 const USAGE: &str = "measure reading SIZE [TIMES]
 measure typing UPDATES TIMES
 measure tidying TERMS COMPARISONS TIMES
+measure chain-ties|pair-ties EQUALITIES TIMES
 measure star|chain|ring|dense|pair|four TIMES";
 
 /// What is to be measured.
@@ -30,6 +33,8 @@ enum Task {
     Typing(u8, u32),
     /// The tidying of a sum of so many terms, each of so many comparisons, so many times.
     Tidying(u32, u32, u32),
+    /// The classes of a term of so many equalities, so many times.
+    Classes(Ties, u32, u32),
     /// The listing of link trees, so many times.
     Trees(Shape, u32),
 }
@@ -56,6 +61,8 @@ fn task_of(name: &str, numbers: &[u32]) -> Option<Task> {
         ("tidying", [count, comparisons, times]) => {
             Some(Task::Tidying(*count, *comparisons, *times))
         }
+        ("chain-ties", [count, times]) => Some(Task::Classes(Ties::Chain, *count, *times)),
+        ("pair-ties", [count, times]) => Some(Task::Classes(Ties::Pairs, *count, *times)),
         (_, [times]) => Some(Task::Trees(shape_of(name)?, *times)),
         _ => None,
     }
@@ -87,6 +94,7 @@ fn main(rt: HostRuntime) -> io::Result<()> {
         Some(Task::Tidying(count, comparisons, times)) => {
             tidying::time(&rt, count, comparisons, times)
         }
+        Some(Task::Classes(ties, count, times)) => classes::time(&rt, ties, count, times),
         Some(Task::Trees(shape, times)) => trees::time(&rt, shape, times),
         None => println!(rt; "{USAGE}"),
     }

@@ -16,7 +16,6 @@ use Rattle.mig_algebra.specs.Meaning.{Setting, Env, value_of, lit_true, lits_tru
 use Rattle.mig_algebra.proofs.OrderLaws.{atom_total, atom_tie}
 use Rattle.mig_algebra.proofs.Truth.{value_eq-swap}
 use Rattle.mig_classes.specs.Classes.{atom_eq, lesser, merged, least, one_class, all_equated}
-use Rattle.mig_classes.specs.Laws.{ClassLaw, ValueLaw}
 
 -- ---- atoms
 
@@ -158,7 +157,7 @@ module _ (same : Atom → Atom → Bool) (q : IsEquivalence same) where
       go (inr n) (inr m) = ap₂ (λ b c. same (cond (b || c) (lesser (l x) (l y)) (l a)) a) n m ∙ h a
 
   -- an atom and the least of its class are the same
-  least-same : (ls : List Lit) → all_equated same ls → (a : Atom) → same (least ls a) a ≡ true
+  pub least-same : (ls : List Lit) → all_equated same ls → (a : Atom) → same (least ls a) a ≡ true
   least-same [] h a = q.refl a
   least-same (Cmp Eq x y ∷ ls) h a = merged-same (least ls) x y h.0 (least-same ls h.1) a
   least-same (Cmp Ne x y ∷ ls) h a = least-same ls h a
@@ -194,9 +193,3 @@ pub one_class-value : (s : Setting) (e : Env) (ls : List Lit) (a b : Atom) → l
 one_class-value s e ls a b h k =
     value_eq-true (value_of s e a) (value_of s e b)
     (class-least (λ a b. value_eq (value_of s e a) (value_of s e b)) (value-equivalence s e) ls (true-equated s e ls h) a b k)
-
-pub class-law : ClassLaw
-class-law = record { equivalence = class-equivalence; equated = class-equated; least = λ ls a b same q h k. class-least same q ls h a b k }
-
-pub value-law : ValueLaw
-value-law = record { by = one_class-value }

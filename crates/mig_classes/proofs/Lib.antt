@@ -5,6 +5,7 @@ pub mod FreshKeys
 pub mod Giving
 pub mod Grouped
 pub mod Passing
+pub mod LeastAtoms
 pub mod Rising
 pub mod Written
 pub mod WrittenProper

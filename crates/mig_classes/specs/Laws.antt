@@ -5,17 +5,20 @@ use Rattle.std.specs.List.{list_all}
 use Rattle.mig_algebra.specs.declared.atoms.Var.{Var}
 use Rattle.mig_algebra.specs.declared.atoms.Atom.{Atom}
 use Rattle.mig_algebra.specs.declared.literals.Lit.{Lit}
+use Rattle.mig_algebra.specs.Atoms.{atom_lt}
 use Rattle.mig_algebra.specs.Meaning.{Setting, Env, choices, value_of, lit_true, lits_true}
 use Rattle.mig_meaning.specs.Lists.{In}
-use Rattle.mig_classes.specs.Classes.{one_class, all_equated}
+use Rattle.mig_classes.specs.Classes.{least, one_class, all_equated}
 use Rattle.mig_classes.specs.Given.{is_given, has_complement, complement, contradictory}
 use Rattle.mig_classes.specs.Keys.{KeysAreFresh, labels_within}
 
--- To be in one class is the least equivalence that holds of both sides of each equality: two atoms are in one class exactly where every such equivalence holds of them.
+-- To be in one class is the least equivalence that holds of both sides of each equality: two atoms are in one class exactly where every such equivalence holds of them. The least atom of a class is in it, and no atom of the class is before it.
 pub record ClassLaw : Type 0 where
   pub equivalence : (ls : List Lit) → IsEquivalence (one_class ls)
   pub equated : (ls : List Lit) → all_equated (one_class ls) ls
-  pub least : (ls : List Lit) (a b : Atom) (same : Atom → Atom → Bool) → IsEquivalence same → all_equated same ls → one_class ls a b ≡ true → same a b ≡ true
+  pub every : (ls : List Lit) (a b : Atom) (same : Atom → Atom → Bool) → IsEquivalence same → all_equated same ls → one_class ls a b ≡ true → same a b ≡ true
+  pub member : (ls : List Lit) (a : Atom) → one_class ls a (least ls a) ≡ true
+  pub first : (ls : List Lit) (a b : Atom) → one_class ls a b ≡ true → atom_lt b (least ls a) ≡ false
 
 -- where a list is true, the atoms of a class have one value
 pub record ValueLaw : Type 0 where

@@ -132,15 +132,21 @@ fn grouped(
     Ok(groups)
 }
 
-/// The classes into which the term's own equalities group atoms: each of two and more atoms, sorted, in the order of their least atoms. An atom that no equality names is in no class of two; equalities in bodies don't count. The only error is want of memory.
-pub fn closure(alloc: Global, term: &Term) -> Result<Classes, AllocError>
-    ensures { IfOk result (λ c. c.groups ≡ spec.classes term.now.lits) }
+/// The classes of two and more atoms by these literals, each sorted, in the order of their least atoms.
+fn classes_of(alloc: Global, lits: &[Lit]) -> Result<Seq<Seq<Atom>>, AllocError>
+    ensures { IfOk result (λ g. g ≡ spec.classes lits.now) }
 {
-    let lits = term.lits.as_slice();
     let atoms = in_order(equated(alloc, lits)?);
     let mut parents = united(alloc, atoms.as_slice(), lits)?;
     let mut groups = grouped(alloc, atoms.as_slice(), &mut parents)?;
     groups.retain(|group| group.len() > 1);
-    let groups = Seq::from_vec(groups);
+    Ok(Seq::from_vec(groups))
+}
+
+/// The classes into which the term's own equalities group atoms: each of two and more atoms, sorted, in the order of their least atoms. An atom that no equality names is in no class of two; equalities in bodies don't count. The only error is want of memory.
+pub fn closure(alloc: Global, term: &Term) -> Result<Classes, AllocError>
+    ensures { IfOk result (λ c. c.groups ≡ spec.classes term.now.lits) }
+{
+    let groups = classes_of(alloc, term.lits.as_slice())?;
     Ok(Classes { groups })
 }

@@ -1,7 +1,7 @@
 // What classes and given comparisons are. Each law is the contract of a function that does nothing.
 ghost use Rattle.mig_classes.specs.Laws.{ClassLaw, ComplementLaw, ContradictionLaw, GivenLaw, ValueLaw};
 
-/// Two atoms are in one class exactly where every equivalence that holds of both sides of each equality holds of them.
+/// Two atoms are in one class exactly where every equivalence that holds of both sides of each equality holds of them. The least atom of a class is in it, and no atom of the class is before it.
 pub fn classes_are_the_least_equivalence()
     ensures { ClassLaw }
 {}

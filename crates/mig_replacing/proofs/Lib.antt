@@ -1,0 +1,9 @@
+pub mod Alternatives
+pub mod Around
+pub mod Fitting
+pub mod Going
+pub mod Hosted
+pub mod Never
+pub mod Reached
+pub mod Replacing
+pub mod Sound

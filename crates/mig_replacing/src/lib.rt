@@ -1,0 +1,13 @@
+//! A literal at a path of a term, and what may stand in its place.
+#![tactic(auto)]
+
+mod laws;
+mod spreading;
+#[cfg(test)]
+mod tests;
+
+pub use laws::{
+    contradictory_bodies_go, given_literals_go, proper_terms_are_sound,
+    replacing_keeps_terms_proper, replacing_keeps_the_bag,
+};
+pub use spreading::{put_at, spread};
