@@ -1,0 +1,12 @@
+pub mod Answered
+pub mod AssignParts
+pub mod ConditionParts
+pub mod Ends
+pub mod FunctionParts
+pub mod JobParts
+pub mod JoinParts
+pub mod Readers
+pub mod SchemaParts
+pub mod SelectParts
+pub mod StatementParts
+pub mod ValueParts

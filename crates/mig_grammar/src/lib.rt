@@ -1,0 +1,28 @@
+//! The grammar of jobs and programs: from texts to trees of names.
+#![tactic(auto)]
+
+mod assigns;
+mod columns;
+mod conditions;
+mod functions;
+mod hints;
+mod jobs;
+mod joins;
+mod kinds;
+mod marks;
+mod programs;
+mod scalars;
+mod schemas;
+mod selects;
+mod statements;
+#[cfg(test)]
+mod tests;
+mod tree;
+
+pub use jobs::read_tree;
+pub use mig_tokens::{Limit, Misread};
+pub use programs::read_functions;
+pub use tree::{
+    AssignTree, BodyTree, CmpTree, ColName, FunctionTree, HintTree, ItemTree, JobTree, JoinTree,
+    JoinedTree, LinkTree, RowsTree, ScalarTree, SchemaTree, SelectTree, StmtTree, ValueTree,
+};

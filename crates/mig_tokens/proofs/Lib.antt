@@ -1,0 +1,17 @@
+pub mod Answer
+pub mod Choice
+pub mod Closed
+pub mod CommaParts
+pub mod Digits
+pub mod Firsts
+pub mod Laws
+pub mod LexLemmas
+pub mod ListParts
+pub mod Loop
+pub mod Many
+pub mod PlaceLemmas
+pub mod PlacedAnswer
+pub mod Steps
+pub mod TextLemmas
+pub mod TokenParts
+pub mod Whole

@@ -1,0 +1,15 @@
+pub mod Bytes
+pub mod Class
+pub mod Forms
+pub mod Given
+pub mod Limits
+pub mod Marked
+pub mod Numbers
+pub mod Pieces
+pub mod Place
+pub mod Places
+pub mod Reading
+pub mod Refused
+pub mod Texts
+pub mod Tokens
+pub mod Words
