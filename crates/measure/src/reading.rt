@@ -7,8 +7,11 @@ use std::io;
 use std::rt::Runtime;
 use std::time::Instant;
 
-/// How many functions the job has that these bytes spell, if they spell one.
+/// How many functions the job has that these bytes spell, if they spell one and are no longer than a job may be.
 fn functions_read(alloc: Global, bytes: &Bytes) -> Option<usize> {
+    if bytes.len() > 262_144 {
+        return None;
+    }
     match read_job(alloc, bytes.as_slice()) {
         Ok(job) => Some(job.program.functions.len()),
         Err(_) => None,

@@ -1,7 +1,8 @@
 -- From a plan that was put, or cut short, to what the desk promises.
-use Rattle.std.proofs.Common.{◌≡◌, ◌≢◌, ℕ, List, [], Option, Some, ◌⊎◌, inl, inr, sym, ◌∙◌, subst}
+use Rattle.std.proofs.Common.{◌≡◌, ◌≢◌, ℕ, List, [], Option, ◌⊎◌, inl, inr, sym, ◌∙◌, subst}
 use Rattle.mig_io.specs.Counts.{Rose}
 use Rattle.mig_cli.specs.Desk as spec
+use Rattle.mig_cli.specs.Lines as lines
 
 module _ (told : List ℕ → Option (List ℕ)) (words : List (List ℕ)) (planned result : ℕ) (text report : List ℕ) (out out' err err' : Option (List ℕ)) where
   -- what was planned was put, or the status says otherwise
@@ -32,7 +33,7 @@ module _ (told : List ℕ → Option (List ℕ)) (words : List (List ℕ)) (plan
 
   -- what was planned is what was under way
   pub under_way : (files files' : ℕ) → (spec.Tells told words → (planned ≡ 6) ⊎ spec.IsOutcome told words planned text report)
-      → (planned ≡ 6 → (file : List ℕ) × (spec.file_word words ≡ Some file) × (text ≡ []) × (report ≡ spec.cannot_read file)) → (planned ≡ 6 → Rose files files')
+      → (planned ≡ 6 → (file : List ℕ) × spec.NamesJob words file × (text ≡ []) × (report ≡ lines.cannot_read file)) → (planned ≡ 6 → Rose files files')
       → spec.Tells told words → spec.IsUnderWay told words files files' text report
   under_way files files' outcome unread cause tells =
       elim (outcome tells) [
@@ -42,7 +43,7 @@ module _ (told : List ℕ → Option (List ℕ)) (words : List (List ℕ)) (plan
 
 -- where memory ran out and no sink failed, one line says so
 pub short : (told : List ℕ → Option (List ℕ)) (words : List (List ℕ)) (files files' outs outs' errs errs' result : ℕ) (out out' err err' : Option (List ℕ)) → (result ≡ 8) ⊎ (result ≡ 7)
-    → (result ≡ 8 → spec.Whole out out' err err' [] spec.no_memory) → (result ≡ 7 → Rose outs outs' ⊎ Rose errs errs') → spec.Complete told words files files' outs outs' errs errs' result out out' err err'
+    → (result ≡ 8 → spec.Whole out out' err err' [] lines.no_memory) → (result ≡ 7 → Rose outs outs' ⊎ Rose errs errs') → spec.Complete told words files files' outs outs' errs errs' result out out' err err'
 short told words files files' outs outs' errs errs' result out out' err err' ends whole sink_fault tells no_file no_out no_err =
     elim ends [
       | inl eight ↦ inl (eight, whole eight)

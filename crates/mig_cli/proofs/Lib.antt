@@ -8,6 +8,7 @@ pub mod NoKeys
 pub mod OneTable
 pub mod Passing
 pub mod PlainForms
+pub mod PlainTexts
 pub mod Planned
 pub mod Putting
 pub mod RenamedHeads

@@ -4,7 +4,7 @@ use Rattle.std.specs.List.{list_all}
 use Rattle.mig_schema.specs.declared.jobs.Job.{Job}
 use Rattle.mig_schema.specs.Plain.{IsPlain}
 use Rattle.mig_schema.specs.Typed.{IsTyped}
-use Rattle.mig_syntax.specs.Job.{IsPlainJobText}
+use Rattle.mig_cli.proofs.PlainTexts.{IsPlainJobText}
 use Rattle.mig_meaning.specs.Meeting.{takes_no_keys, AreTyped}
 use Rattle.mig_certificate.specs.Valid.{IsValid}
 use Rattle.mig_cli.specs.Renaming.{renamed, renaming_certificate}

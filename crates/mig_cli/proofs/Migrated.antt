@@ -1,7 +1,6 @@
 -- What the desk puts with status 0 is a migration.
-use Rattle.std.proofs.Common.{◌≡◌, ℕ, List, Option, Some, inl, inr, sym, refl, subst}
+use Rattle.std.proofs.Common.{◌≡◌, ℕ, List, Option, Some, inl, inr, sym, refl, ◌∙◌, subst}
 use Rattle.mig_schema.specs.declared.jobs.Job.{Job}
-use Rattle.mig_syntax.specs.Job.{IsPlainJobText}
 use Rattle.mig_rules.specs.Keeping.{FollowLaw}
 use Rattle.mig_rules.proofs.FollowProper.{follow-proper}
 use Rattle.mig_rules.proofs.FollowKeeps.{follow-keeps}
@@ -9,6 +8,8 @@ use Rattle.mig_certificate.proofs.Shown.{valid-equivalent}
 use Rattle.mig_cli.specs.Desk as spec
 use Rattle.mig_cli.specs.Headline.{IsMigration, Migrates}
 use Rattle.mig_cli.specs.Renaming.{renamed, renaming_certificate}
+use Rattle.mig_cli.proofs.PlainTexts.{IsPlainJobText, plain-text}
+use Rattle.mig_cli.proofs.Planned.{never-zero}
 use Rattle.mig_cli.proofs.Made.{text-typed, text-valid}
 use Rattle.mig_cli.proofs.Spelled.{text-spelled}
 
@@ -37,8 +38,9 @@ answer-migrates bytes job t =
 
 -- so is what was read with status 0
 read-migrates : (file bytes : List ℕ) (status : ℕ) (text report : List ℕ) → status ≡ 0 → spec.IsRead file bytes status text report → IsMigration bytes text
-read-migrates file bytes status text report zero (spec.unread none two nothing line) = absurd cc
-read-migrates file bytes status text report zero (spec.done job spells is answer line) = subst (λ (t : List ℕ). IsMigration bytes t) (sym answer) (answer-migrates bytes job spells)
+read-migrates file bytes status text report zero (spec.faulty e h is nothing line) = absurd (never-zero e (sym is ∙ zero))
+read-migrates file bytes status text report zero (spec.not_plain job spells other two nothing line) = absurd cc
+read-migrates file bytes status text report zero (spec.done job spells plain is answer line) = subst (λ (t : List ℕ). IsMigration bytes t) (sym answer) (answer-migrates bytes job (plain-text bytes job spells plain))
 
 -- what was fetched with status 0
 fetched-migrates : (file bytes : List ℕ) (status : ℕ) (text report : List ℕ) → status ≡ 0 → spec.IsFetched file bytes status text report → IsMigration bytes text
@@ -47,8 +49,9 @@ fetched-migrates file bytes status text report zero (spec.read le h) = read-migr
 
 -- the outcome with status 0 is a migration of the job in the named file
 outcome-migrates : (told : List ℕ → Option (List ℕ)) (words : List (List ℕ)) (status : ℕ) (text report : List ℕ) → status ≡ 0 → spec.IsOutcome told words status text report
-    → (file : List ℕ) × (bytes : List ℕ) × (spec.file_word words ≡ Some file) × (told file ≡ Some bytes) × IsMigration bytes text
-outcome-migrates told words status text report zero (spec.refused other one nothing line) = absurd cc
+    → (file : List ℕ) × (bytes : List ℕ) × spec.NamesJob words file × (told file ≡ Some bytes) × IsMigration bytes text
+outcome-migrates told words status text report zero (spec.refused e h one nothing line) = absurd cc
+outcome-migrates told words status text report zero (spec.unbuilt command h other one nothing line) = absurd cc
 outcome-migrates told words status text report zero (spec.taken file bytes named holds h) = (file, bytes, named, holds, fetched-migrates file bytes status text report zero h)
 
 -- what is right with status 0 is a migration that was put whole

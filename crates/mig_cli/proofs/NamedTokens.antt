@@ -1,22 +1,25 @@
 -- The names of the functions and parameters of a job that a text spells are names.
-use Rattle.std.proofs.Common.{◌≡◌, ℕ, ◌+◌, Bool, true, false, ◌&&◌, List, [], ◌∷◌, ◌++◌, map, length, take, refl, sym, ap, ◌∙◌, subst, ◌⊎◌, inl, inr}
+use Rattle.std.proofs.Common.{◌≡◌, ℕ, ◌+◌, Bool, true, false, ◌&&◌, List, [], ◌∷◌, ◌++◌, map, length, take, Option, Some, None, refl, sym, ap, ◌∙◌, subst, ◌⊎◌, inl, inr}
 use Rattle.std.specs.Prelude.{if◌then◌else◌, ◌==◌, nat_lt}
 use Rattle.std.specs.List.{list_all, take_while, AllByRecursion}
+use Rattle.std.specs.Str.{is_utf8}
 use Rattle.std.proofs.lemmas.Bool.{and_from, and_parts, cases_Bool, not_from_false, or_left, cond-true, cond-false}
 use Rattle.std.proofs.lemmas.List.Sums.{take_while-cons}
 use Rattle.mig_schema.specs.declared.tables.Table.{Table}
 use Rattle.mig_schema.specs.declared.programs.Param.{Param}
 use Rattle.mig_schema.specs.declared.programs.Function.{Function}
 use Rattle.mig_schema.specs.declared.jobs.Job.{Job}
-use Rattle.mig_syntax.specs.declared.token.Token.{Token}
-use Rattle.mig_syntax.specs.declared.token.Token.TheVariants.{Word, Int, Sign, Bad, End}
-use Rattle.mig_syntax.specs.declared.tree.FunctionTree.{FunctionTree}
-use Rattle.mig_syntax.specs.declared.tree.JobTree.{JobTree}
-use Rattle.mig_syntax.specs.Bytes.{is_digit, is_letter, is_name_byte, first_is, sign_len}
-use Rattle.mig_syntax.specs.Tokens.{cut, first_token, Lexes}
-use Rattle.mig_syntax.specs.Marked.{Marked, clean}
-use Rattle.mig_syntax.specs.Spelling.{is_reserved, numbered, behind_comma, listed, table_tokens, param_tokens, function_tokens, job_tokens}
-use Rattle.mig_syntax.specs.Shapes.{is_param_kind, IsParam, IsFunction}
+use Rattle.mig_tokens.specs.declared.token.Token.{Token}
+use Rattle.mig_tokens.specs.declared.token.Token.TheVariants.{Word, Int, Text, Sign, Bad, End}
+use Rattle.mig_grammar.specs.declared.tree.FunctionTree.{FunctionTree}
+use Rattle.mig_grammar.specs.declared.tree.JobTree.{JobTree}
+use Rattle.mig_tokens.specs.Bytes.{is_digit, is_letter, is_name_byte, first_is, sign_len}
+use Rattle.mig_tokens.specs.Tokens.{cut, text_at, text_token, first_token, Lexes}
+use Rattle.mig_tokens.specs.Marked.{Marked, clean}
+use Rattle.mig_tokens.specs.Words.{is_reserved}
+use Rattle.mig_tokens.specs.Forms.{Before, no_room, start, behind, numbered, behind_comma, listed}
+use Rattle.mig_grammar.specs.Spelling.{schema_tokens, param_tokens, function_tokens, job_tokens}
+use Rattle.mig_grammar.specs.Shapes.{is_param_kind, IsParam, IsFunction}
 use Rattle.mig_syntax.specs.Naming.{function_of}
 use Rattle.mig_syntax.specs.Job.{IsJobText}
 use Rattle.mig_cli.specs.Spellable.{is_name, param_spelled}
@@ -59,19 +62,30 @@ word-there b bs t =
     ap is_word (front-taken is_name_byte (b ∷ bs)) ∙ and_from (first_is is_letter (take_while is_name_byte (b ∷ bs))) _ (ap (first_is is_letter) e ∙ t) (front-passes is_name_byte (b ∷ bs))
 
 -- the first of these
-pick : (l d m s : Bool) (word int minus sign bad : Token × List ℕ) → (l ≡ true → IsWordly word.0) → IsWordly int.0 → IsWordly minus.0 → IsWordly sign.0 → IsWordly bad.0
-    → IsWordly (if l then word else (if d then int else (if m then minus else (if s then sign else bad)))).0
-pick true d m s word int minus sign bad w i n g b = w refl
-pick false true m s word int minus sign bad w i n g b = i
-pick false false true s word int minus sign bad w i n g b = n
-pick false false false true word int minus sign bad w i n g b = g
-pick false false false false word int minus sign bad w i n g b = b
+pick : (l d m q s : Bool) (word int minus text sign bad : Token × List ℕ) → (l ≡ true → IsWordly word.0) → IsWordly int.0 → IsWordly minus.0 → IsWordly text.0 → IsWordly sign.0 → IsWordly bad.0
+    → IsWordly (if l then word else (if d then int else (if m then minus else (if q then text else (if s then sign else bad))))).0
+pick true d m q s word int minus text sign bad w i n t g b = w refl
+pick false true m q s word int minus text sign bad w i n t g b = i
+pick false false true q s word int minus text sign bad w i n t g b = n
+pick false false false true s word int minus text sign bad w i n t g b = t
+pick false false false false true word int minus text sign bad w i n t g b = g
+pick false false false false false word int minus text sign bad w i n t g b = b
+
+-- either of two
+either-wordly : (b : Bool) (p q : Token × List ℕ) → IsWordly p.0 → IsWordly q.0 → IsWordly (if b then p else q).0
+either-wordly true p q h k = h
+either-wordly false p q h k = k
+
+-- a text is no word
+text-wordly : (o : Option (List ℕ × List ℕ)) → IsWordly (text_token o).0
+text-wordly None = tt
+text-wordly (Some x) = either-wordly (is_utf8 x.0) (Text x.0, x.1) (Bad, []) tt tt
 
 first-wordly : (b : ℕ) (bs : List ℕ) → IsWordly (first_token b bs).0
 first-wordly b bs =
-    pick (is_letter b) (is_digit b) ((b == 45) && first_is is_digit bs) (nat_lt 0 (sign_len b bs))
+    pick (is_letter b) (is_digit b) ((b == 45) && first_is is_digit bs) (b == 34) (nat_lt 0 (sign_len b bs))
     (cut Word (length (take_while is_name_byte (b ∷ bs))) (b ∷ bs)) (cut Int (length (take_while is_digit (b ∷ bs))) (b ∷ bs)) (cut Int (length (take_while is_digit bs) + 1) (b ∷ bs))
-    (cut Sign (sign_len b bs) (b ∷ bs)) (cut (λ _. Bad) 1 (b ∷ bs)) (word-there b bs) tt tt tt tt
+    (text_token (text_at bs)) (cut Sign (sign_len b bs) (b ∷ bs)) (Bad, []) (word-there b bs) tt tt (text-wordly (text_at bs)) tt tt
 
 all-wordly : (bytes : List ℕ) (ts : List Token) → Lexes bytes ts → AllByRecursion IsWordly ts
 all-wordly bytes [] h = tt
@@ -109,31 +123,31 @@ name-there w h n =
 param-named : (p : Param) → is_word p.name ≡ true → IsParam p → param_spelled p ≡ true
 param-named p w h = and_from (is_name p.name) (is_param_kind p.kind) (name-there p.name w h.name) h.kind
 
-more-named : (k : ℕ) (ps : List Param) → AreWordly (numbered (behind_comma param_tokens) k ps) → AllByRecursion IsParam ps → list_all param_spelled ps ≡ true
-more-named k [] w h = refl
-more-named k (p ∷ ps) w h = and_from (param_spelled p) (list_all param_spelled ps) (param-named p w.1.0 h.0) (more-named (k + 1) ps w.1.1.1.1 h.1)
+more-named : (s : Before) (ps : List Param) → AreWordly (numbered no_room (behind_comma param_tokens) s ps) → AllByRecursion IsParam ps → list_all param_spelled ps ≡ true
+more-named s [] w h = refl
+more-named s (p ∷ ps) w h = and_from (param_spelled p) (list_all param_spelled ps) (param-named p w.1.0 h.0) (more-named (behind 0 s) ps w.1.1.1.1 h.1)
 
-params-named : (ps : List Param) → AreWordly (listed param_tokens ps) → AllByRecursion IsParam ps → list_all param_spelled ps ≡ true
+params-named : (ps : List Param) → AreWordly (listed no_room param_tokens start ps) → AllByRecursion IsParam ps → list_all param_spelled ps ≡ true
 params-named [] w h = refl
-params-named (p ∷ ps) w h = and_from (param_spelled p) (list_all param_spelled ps) (param-named p w.0 h.0) (more-named 1 ps w.1.1.1 h.1)
+params-named (p ∷ ps) w h = and_from (param_spelled p) (list_all param_spelled ps) (param-named p w.0 h.0) (more-named (behind 0 start) ps w.1.1.1 h.1)
 
 -- whether the names of a function are names
 abbrev pub head_spelled : Function → Bool
 head_spelled f = is_name f.name && list_all param_spelled f.params
 
-functions-named : (tables : List Table) (k : ℕ) (fs : List FunctionTree) → AreWordly (numbered function_tokens k fs) → AllByRecursion IsFunction fs → list_all head_spelled (map (function_of tables) fs) ≡ true
-functions-named tables k [] w h = refl
-functions-named tables k (f ∷ fs) w h =
-    let here = front (function_tokens k f) (numbered function_tokens (k + 1) fs) w in
+functions-named : (tables : List Table) (s : Before) (fs : List FunctionTree) → AreWordly (numbered no_room function_tokens s fs) → AllByRecursion IsFunction fs → list_all head_spelled (map (function_of tables) fs) ≡ true
+functions-named tables s [] w h = refl
+functions-named tables s (f ∷ fs) w h =
+    let here = front (function_tokens s f) (numbered no_room function_tokens (behind 0 s) fs) w in
     and_from (head_spelled (function_of tables f)) _
-    (and_from (is_name f.name) _ (name-there f.name here.1.0 h.0.name) (params-named f.params (front (listed param_tokens f.params) _ here.1.1.1) h.0.params))
-    (functions-named tables (k + 1) fs (back (function_tokens k f) (numbered function_tokens (k + 1) fs) w) h.1)
+    (and_from (is_name f.name) _ (name-there f.name here.1.0 h.0.name) (params-named f.params (front (listed no_room param_tokens start f.params) _ here.1.1.1) h.0.params))
+    (functions-named tables (behind 0 s) fs (back (function_tokens s f) (numbered no_room function_tokens (behind 0 s) fs) w) h.1)
 
-tree-named : (t : JobTree) → AreWordly (job_tokens t) → AllByRecursion IsFunction t.functions → list_all head_spelled (map (function_of t.source) t.functions) ≡ true
+tree-named : (t : JobTree) → AreWordly (job_tokens t) → AllByRecursion IsFunction t.functions → list_all head_spelled (map (function_of t.source.tables) t.functions) ≡ true
 tree-named t w h =
-    let new = back (numbered table_tokens 0 t.source) _ w.1 in
-    let program = back (numbered table_tokens 0 t.target) _ new.1 in
-    functions-named t.source 0 t.functions (front (numbered function_tokens 0 t.functions) _ program.1) h
+    let new = back (schema_tokens t.source) _ w.1 in
+    let program = back (schema_tokens t.target) _ new.1 in
+    functions-named t.source.tables start t.functions (front (numbered no_room function_tokens start t.functions) _ program.1) h
 
 pub text-named : (bytes : List ℕ) (job : Job) → IsJobText bytes job → list_all head_spelled job.program.functions ≡ true
 text-named bytes job t =

@@ -7,8 +7,8 @@ use Rattle.mig_schema.specs.declared.tables.Kind.TheVariants as kind
 use Rattle.mig_schema.specs.declared.tables.Table.{Table}
 use Rattle.mig_schema.specs.declared.programs.Param.{Param}
 use Rattle.mig_schema.specs.declared.jobs.Job.{Job}
-use Rattle.mig_syntax.specs.declared.tree.FunctionTree.{FunctionTree}
-use Rattle.mig_syntax.specs.Shapes.{is_param_kind, IsParam, IsFunction}
+use Rattle.mig_grammar.specs.declared.tree.FunctionTree.{FunctionTree}
+use Rattle.mig_grammar.specs.Shapes.{is_param_kind, IsParam, IsFunction}
 use Rattle.mig_syntax.specs.Naming.{function_of}
 use Rattle.mig_syntax.specs.Job.{IsJobText}
 use Rattle.mig_meaning.specs.Meeting.{is_no_key, takes_no_keys}
@@ -29,4 +29,4 @@ functions-no_keys tables (f ∷ fs) h = and_from (takes_no_keys (function_of tab
 
 pub text-no_keys : (bytes : List ℕ) (job : Job) → IsJobText bytes job → list_all takes_no_keys job.program.functions ≡ true
 text-no_keys bytes job t =
-    subst (λ (j : Job). list_all takes_no_keys j.program.functions ≡ true) t.named (functions-no_keys t.tree.source t.tree.functions t.text.text.fits.functions)
+    subst (λ (j : Job). list_all takes_no_keys j.program.functions ≡ true) t.named (functions-no_keys t.tree.source.tables t.tree.functions t.text.text.fits.functions)

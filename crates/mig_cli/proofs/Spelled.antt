@@ -3,6 +3,7 @@ use Rattle.std.proofs.Common.{◌≡◌, ℕ, Bool, true, List, [], ◌∷◌, m
 use Rattle.std.specs.List.{list_all, AllByRecursion}
 use Rattle.std.proofs.lemmas.Bool.{and_from, and_parts}
 use Rattle.mig_schema.specs.declared.tables.Column.{Column}
+use Rattle.mig_schema.specs.declared.tables.Link.{Link}
 use Rattle.mig_schema.specs.declared.tables.Table.{Table}
 use Rattle.mig_schema.specs.declared.programs.Assign.{Assign}
 use Rattle.mig_schema.specs.declared.programs.Scalar.{Scalar}
@@ -14,15 +15,17 @@ use Rattle.mig_schema.specs.declared.jobs.Job.{Job}
 use Rattle.mig_schema.specs.Columns.{columns_in}
 use Rattle.mig_schema.specs.Plain.{is_param, is_plain_body}
 use Rattle.mig_schema.specs.Typed.{IsTypedFunction}
-use Rattle.mig_syntax.specs.declared.tree.BodyTree.{BodyTree}
-use Rattle.mig_syntax.specs.declared.tree.BodyTree.TheVariants as tree
-use Rattle.mig_syntax.specs.declared.tree.FunctionTree.{FunctionTree}
-use Rattle.mig_syntax.specs.Shapes.{AllOfSome, IsColumn, IsBody, IsFunction, IsTable}
-use Rattle.mig_syntax.specs.Naming.{body_of, function_of}
-use Rattle.mig_syntax.specs.Job.{IsJobText, IsPlainJobText}
+use Rattle.mig_grammar.specs.declared.tree.BodyTree.{BodyTree}
+use Rattle.mig_grammar.specs.declared.tree.BodyTree.TheVariants as tree
+use Rattle.mig_grammar.specs.declared.tree.FunctionTree.{FunctionTree}
+use Rattle.mig_tokens.specs.Forms.{AllOfSome}
+use Rattle.mig_grammar.specs.Shapes.{IsColumn, IsBody, IsFunction, IsTable}
+use Rattle.mig_syntax.specs.Naming.{link_of, body_of, function_of}
+use Rattle.mig_syntax.specs.Job.{IsJobText}
 use Rattle.mig_certificate.specs.declared.proofs.PairProof.{PairProof}
 use Rattle.mig_cli.specs.Renaming.{image, renamed_values, renamed_body, renamed_function, renamed, renaming_pair, renaming_views, renaming_certificate}
 use Rattle.mig_cli.specs.Spellable.{has_items, is_name, scalar_spelled, body_spelled, function_spelled, invariant_spelled, IsSpellable}
+use Rattle.mig_cli.proofs.PlainTexts.{IsPlainJobText}
 use Rattle.mig_cli.proofs.Passing.{all-from}
 use Rattle.mig_cli.proofs.Hinted.{one-source, one-target}
 use Rattle.mig_cli.proofs.PlainForms.{IsPlainForm, inserts, selects, plain-form}
@@ -41,11 +44,11 @@ some-has Fits [] h = absurd h
 some-has Fits (x ∷ xs) h = refl
 
 -- a schema of one table that is spelled has a column
-columns-there : (tables : List Table) → length tables ≡ 1 → AllByRecursion IsTable tables → has_items (columns_in (record { tables = tables; links = [] }) 0) ≡ true
-columns-there [] one h = absurd (omega (arith, one))
-columns-there (t ∷ ts) one h = go t.columns h.0.columns
+columns-there : (tables : List Table) (links : List Link) → length tables ≡ 1 → AllByRecursion IsTable tables → has_items (columns_in (record { tables = tables; links = links }) 0) ≡ true
+columns-there [] links one h = absurd (omega (arith, one))
+columns-there (t ∷ ts) links one h = go t.columns h.0.columns
   where
-    go : (cs : List Column) → AllOfSome IsColumn cs → has_items (columns_in (record { tables = record { name = t.name; columns = cs } ∷ ts; links = [] }) 0) ≡ true
+    go : (cs : List Column) → AllOfSome IsColumn cs → has_items (columns_in (record { tables = record { name = t.name; columns = cs } ∷ ts; links = links }) 0) ≡ true
     go [] k = absurd k
     go (c ∷ cs) k = refl
 
@@ -63,15 +66,15 @@ all-select tables [] h = refl
 all-select tables (f ∷ fs) h = and_from (selects_some (body_of tables f.params f.body)) _ (body-selects tables f f.body h.0.body) (all-select tables fs h.1)
 
 text-selects : (bytes : List ℕ) (job : Job) → IsJobText bytes job → list_all (λ (f : Function). selects_some f.body) job.program.functions ≡ true
-text-selects bytes job t = subst (λ (j : Job). list_all (λ (f : Function). selects_some f.body) j.program.functions ≡ true) t.named (all-select t.tree.source t.tree.functions t.text.text.fits.functions)
+text-selects bytes job t = subst (λ (j : Job). list_all (λ (f : Function). selects_some f.body) j.program.functions ≡ true) t.named (all-select t.tree.source.tables t.tree.functions t.text.text.fits.functions)
 
 source-columns : (bytes : List ℕ) (job : Job) → IsJobText bytes job → length job.source.tables ≡ 1 → has_items (columns_in job.source 0) ≡ true
 source-columns bytes job t =
-    subst (λ (j : Job). length j.source.tables ≡ 1 → has_items (columns_in j.source 0) ≡ true) t.named (λ one. columns-there t.tree.source one t.text.text.fits.source)
+    subst (λ (j : Job). length j.source.tables ≡ 1 → has_items (columns_in j.source 0) ≡ true) t.named (λ one. columns-there t.tree.source.tables (map (link_of t.tree.source.tables) t.tree.source.links) one t.text.text.fits.source.tables)
 
 target-columns : (bytes : List ℕ) (job : Job) → IsJobText bytes job → length job.target.tables ≡ 1 → has_items (columns_in job.target 0) ≡ true
 target-columns bytes job t =
-    subst (λ (j : Job). length j.target.tables ≡ 1 → has_items (columns_in j.target 0) ≡ true) t.named (λ one. columns-there t.tree.target one t.text.text.fits.target)
+    subst (λ (j : Job). length j.target.tables ≡ 1 → has_items (columns_in j.target 0) ≡ true) t.named (λ one. columns-there t.tree.target.tables (map (link_of t.tree.target.tables) t.tree.target.links) one t.text.text.fits.target.tables)
 
 -- a parameter is spelled
 param-spelled : (x : Scalar) → is_param x ≡ true → scalar_spelled x ≡ true

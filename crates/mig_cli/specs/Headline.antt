@@ -10,7 +10,7 @@ use Rattle.mig_certificate.specs.declared.proofs.Certificate.{Certificate}
 use Rattle.mig_certificate.specs.AnswerText.{answer_text}
 use Rattle.mig_certificate.specs.Valid.{IsValid}
 use Rattle.mig_io.specs.Taken.{and_then}
-use Rattle.mig_cli.specs.Desk.{file_word, Tells}
+use Rattle.mig_cli.specs.Desk.{NamesJob, Tells}
 use Rattle.mig_cli.specs.Spellable.{IsSpellable}
 
 -- A text is a migration of the job that these bytes spell: the answer with a new program and a certificate.
@@ -34,4 +34,4 @@ pub record IsMigration (bytes text : List ℕ) : Type 0 where
 abbrev pub Migrates : (told : List ℕ → Option (List ℕ)) → (words : List (List ℕ)) → (status : ℕ) → (out out' : Option (List ℕ)) → Type 0
 Migrates told words status out out' =
     Tells told words → status ≡ 0
-    → (file : List ℕ) × (bytes : List ℕ) × (text : List ℕ) × (file_word words ≡ Some file) × (told file ≡ Some bytes) × (out' ≡ and_then out text) × IsMigration bytes text
+    → (file : List ℕ) × (bytes : List ℕ) × (text : List ℕ) × NamesJob words file × (told file ≡ Some bytes) × (out' ≡ and_then out text) × IsMigration bytes text

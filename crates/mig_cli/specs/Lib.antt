@@ -1,4 +1,5 @@
 pub mod Desk
 pub mod Headline
+pub mod Lines
 pub mod Renaming
 pub mod Spellable

@@ -17,9 +17,9 @@ use Rattle.mig_schema.specs.declared.programs.Param.{Param}
 use Rattle.mig_schema.specs.declared.programs.Function.{Function}
 use Rattle.mig_schema.specs.declared.programs.Program.{Program}
 use Rattle.mig_schema.specs.Plain.{is_no_where}
-use Rattle.mig_syntax.specs.Bytes.{is_letter, is_name_byte, first_is}
-use Rattle.mig_syntax.specs.Spelling.{is_reserved}
-use Rattle.mig_syntax.specs.Shapes.{is_param_kind}
+use Rattle.mig_tokens.specs.Bytes.{is_letter, is_name_byte, first_is}
+use Rattle.mig_tokens.specs.Words.{is_reserved}
+use Rattle.mig_grammar.specs.Shapes.{is_param_kind}
 use Rattle.mig_meaning.specs.declared.relating.Invariant.{Invariant}
 use Rattle.mig_meaning.specs.declared.relating.Invariant.TheVariants.{Views, Unique, Apart, Within}
 use Rattle.mig_certificate.specs.declared.proofs.PairProof.{PairProof}

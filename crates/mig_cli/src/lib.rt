@@ -1,18 +1,26 @@
 //! The desk: from the words of a command line to what is written.
 #![tactic(auto)]
 
+#[cfg(test)]
+mod answer_tests;
+#[cfg(test)]
+mod calling;
 mod certifying;
 mod columns;
 mod ending;
+mod lines;
+mod names;
 mod planning;
+#[cfg(test)]
+mod refusal_tests;
 mod renaming;
 #[cfg(test)]
-mod size_tests;
+mod sink_tests;
 #[cfg(test)]
-mod tests;
+mod size_tests;
 mod top;
-mod wording;
 
 pub use certifying::certified;
+pub use mig_words::{Command, Options, WordFault, read_words};
 pub use renaming::renamed;
 pub use top::desk;

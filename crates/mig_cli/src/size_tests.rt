@@ -130,6 +130,9 @@ impl Size {
 
 /// Whether a text is a plain job, and the checker accepts what is made of it.
 fn is_accepted(alloc: Global, text: &[u8]) -> Result<bool, AllocError> {
+    if text.len() > 262_144 {
+        return Ok(false);
+    }
     let Ok(job) = read_job(alloc, text) else {
         return Ok(false);
     };

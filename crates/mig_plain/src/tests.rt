@@ -1,5 +1,5 @@
-// Jobs that are plain and typed, plain alone, or neither.
-use crate::{is_plain, is_typed_plain};
+// Jobs that are plain, and jobs that are not.
+use crate::is_plain;
 use mig_schema::{
     Assign, Body, ColId, Column, Cond, Function, Hint, Job, Join, Kind, Param, Program, Query,
     Scalar, Schema, Seq, Stmt, Table, Txt,
@@ -19,7 +19,6 @@ struct Row {
     /// The columns that get the parameters' values.
     values: [u32; 2],
     plain: bool,
-    typed: bool,
 }
 
 const ROWS: [Row; 8] = [
@@ -31,7 +30,6 @@ const ROWS: [Row; 8] = [
         hints: [(0, 100), (1, 100)],
         values: [0, 1],
         plain: true,
-        typed: true,
     },
     Row {
         name: "same table",
@@ -41,7 +39,6 @@ const ROWS: [Row; 8] = [
         hints: [(0, 100), (1, 100)],
         values: [0, 1],
         plain: false,
-        typed: false,
     },
     Row {
         name: "key",
@@ -51,7 +48,6 @@ const ROWS: [Row; 8] = [
         hints: [(0, 100), (1, 100)],
         values: [0, 1],
         plain: false,
-        typed: false,
     },
     Row {
         name: "light",
@@ -61,7 +57,6 @@ const ROWS: [Row; 8] = [
         hints: [(0, 100), (1, 99)],
         values: [0, 1],
         plain: false,
-        typed: false,
     },
     Row {
         name: "one twice",
@@ -71,7 +66,6 @@ const ROWS: [Row; 8] = [
         hints: [(0, 100), (0, 100)],
         values: [0, 1],
         plain: false,
-        typed: false,
     },
     Row {
         name: "kinds",
@@ -81,7 +75,6 @@ const ROWS: [Row; 8] = [
         hints: [(0, 100), (1, 100)],
         values: [0, 1],
         plain: true,
-        typed: false,
     },
     Row {
         name: "column twice",
@@ -91,7 +84,6 @@ const ROWS: [Row; 8] = [
         hints: [(0, 100), (1, 100)],
         values: [0, 1],
         plain: true,
-        typed: false,
     },
     Row {
         name: "value missing",
@@ -101,7 +93,6 @@ const ROWS: [Row; 8] = [
         hints: [(0, 100), (1, 100)],
         values: [0, 0],
         plain: true,
-        typed: false,
     },
 ];
 
@@ -221,11 +212,10 @@ fn job(alloc: Global, row: &Row) -> Result<Job, AllocError> {
 }
 
 #[test]
-fn tells_plain_and_typed(rt: HostRuntime) -> Result<(), AllocError> {
+fn tells_plain_jobs(rt: HostRuntime) -> Result<(), AllocError> {
     for row in &ROWS {
         let job = job(rt.alloc(), row)?;
         assert_eq!(rt; is_plain(&job), row.plain, "{}", row.name);
-        assert_eq!(rt; is_typed_plain(&job), row.typed, "{}", row.name);
     }
     Ok(())
 }

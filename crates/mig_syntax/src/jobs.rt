@@ -1,116 +1,76 @@
-// Reading of hints and of whole jobs.
-ghost use Rattle.std.specs.Prelude.{◌≡◌, ℕ, Ok, Err, ◌⊎◌, IfOk, codes};
-ghost use Rattle.mig_syntax.specs.declared.tree.JobTree.{JobTree};
-ghost use Rattle.mig_syntax.specs.declared.fault.Limit.{Limit};
-ghost use Rattle.mig_syntax.specs.declared.fault.ReadError.TheVariants as ReadError;
-ghost use Rattle.mig_syntax.specs.Parts.{begins_word, hint_at, job_at};
-ghost use Rattle.mig_syntax.specs.Given.{Gives};
-ghost use Rattle.mig_syntax.specs.Texts.{Lexed, IsTreeText, IsWrongAt, IsPastAt, IsAnswer};
+// Reading of jobs: from the bytes to the job with its numbers, tested by all rules and limits.
+ghost use Rattle.std.specs.Prelude.{◌≡◌, ℕ, ◌<◌, length, Ok, Err, ◌⊎◌, IfOk};
+ghost use Rattle.mig_schema.specs.declared.faults.TypeFault.{TypeFault};
+ghost use Rattle.mig_schema.specs.declared.jobs.Job.{Job};
+ghost use Rattle.mig_schema.specs.Typed.{IsTyped};
+ghost use Rattle.mig_tokens.specs.declared.fault.Limit.{Limit};
+ghost use Rattle.mig_tokens.specs.declared.fault.Limit.TheVariants as limit;
+ghost use Rattle.mig_tokens.specs.Refused.{StandsWrong, StandsPast};
+ghost use Rattle.mig_grammar.specs.Spelling.{job_tokens};
+ghost use Rattle.mig_grammar.specs.Shapes.{IsJobTree};
+ghost use Rattle.mig_syntax.specs.declared.fault.TextFault.TheVariants as fault;
+ghost use Rattle.mig_syntax.specs.Job.{IsJobText, IsTypedJobText, IsMistypedJobText, HasManyPairs, IsJobAnswer};
+ghost use Rattle.mig_syntax.specs.Named.{IsTypedAnswer};
+ghost use Rattle.mig_syntax.specs.Naming.{job_of};
+ghost use Rattle.mig_syntax.specs.Within.{IsProgramWithin};
+ghost use Rattle.mig_syntax.specs.TypingFault.{IsTypingFault};
 
-use crate::columns::col_of;
-use crate::fault::{Limit, ReadError};
-use crate::lex::tokens;
-use crate::limits::over;
-use crate::lists::{Item, many_of};
-use crate::pieces::{after_end, after_sign, after_word, is_word, written_weight};
-use crate::token::Token;
-use crate::tree::{FunctionTree, HintTree, JobTree};
-use mig_schema::Table;
-use std::alloc::{AllocError, Global};
+use crate::fault::TextFault;
+use crate::naming::job_of_tree;
+use crate::pairs::has_many_pairs;
+use crate::typing::check_job;
+use mig_grammar::{Limit, read_tree};
+use mig_schema::Job;
+use std::alloc::Global;
 
-impl Item for HintTree {
-    ghost begun = { begins_word (codes "hint") };
-
-    ghost reads = { hint_at };
-
-    fn is_begun(token: &Token) -> bool {
-        is_word(token, "hint")
-    }
-
-    #[tactic(auto, unfolding(crate::specs::Parts::hint_at))]
-    fn read(
-        alloc: Global,
-        count: usize,
-        tokens: &[Token],
-    ) -> Result<(HintTree, &[Token]), ReadError> {
-        let rest = after_word("hint", over(Limit::Hints, 256, count), tokens)?;
-        let (source, rest) = col_of(alloc, None, rest)?;
-        let rest = after_sign("->", rest)?;
-        let (target, rest) = col_of(alloc, None, rest)?;
-        let (weight, rest) = written_weight(alloc, rest)?;
-        let rest = after_sign(";", rest)?;
-        Ok((
-            HintTree {
-                source,
-                target,
-                weight,
-            },
-            rest,
-        ))
-    }
-}
-
-/// A whole job, up to the end of the text.
-#[tactic(auto, unfolding(crate::specs::Parts::job_at))]
-fn job_of(alloc: Global, tokens: &[Token]) -> Result<(JobTree, &[Token]), ReadError>
-    ensures { Gives (λ x. (x.0, x.1.now)) result (job_at tokens.now) }
+/// The job that the bytes spell, where it is typed, as one fact.
+fn typed_job(alloc: Global, bytes: &[u8]) -> Result<Job, TextFault>
+    requires { length bytes.now < 2147483648 }
+    ensures { IsTypedAnswer job_tokens IsJobTree job_of IsTyped IsTypingFault bytes.now result }
 {
-    let rest = after_word("old", None, tokens)?;
-    let (source, rest) = many_of::<Table>(alloc, rest)?;
-    let rest = after_word("new", None, rest)?;
-    let (target, rest) = many_of::<Table>(alloc, rest)?;
-    let rest = after_word("program", None, rest)?;
-    let (functions, rest) = many_of::<FunctionTree>(alloc, rest)?;
-    let rest = after_word("hints", None, rest)?;
-    let (hints, rest) = many_of::<HintTree>(alloc, rest)?;
-    let rest = after_end(rest)?;
-    Ok((
-        JobTree {
-            source,
-            target,
-            functions,
-            hints,
-        },
-        rest,
-    ))
+    let tree = read_tree(alloc, bytes)?;
+    let job = job_of_tree(alloc, &tree)?;
+    check_job(alloc, &job)?;
+    Ok(job)
 }
 
-/// The tokens of the bytes, and their end.
-fn tokens_to_end(alloc: Global, bytes: &[u8]) -> Result<Vec<Token>, AllocError>
-    ensures { IfOk result (λ v. Lexed bytes.now v.items) }
+/// The job that the bytes spell, where it is typed and has few pairs, as one fact.
+fn job_with_pairs(alloc: Global, bytes: &[u8]) -> Result<Job, TextFault>
+    requires { length bytes.now < 2147483648 }
+    ensures { IsJobAnswer bytes.now result }
 {
-    let mut found = tokens(alloc, bytes)?;
-    match found.push(Token::End) {
-        Ok(()) => Ok(found),
-        Err(_) => Err(AllocError),
+    let job = typed_job(alloc, bytes)?;
+    if has_many_pairs(&job) {
+        return Err(TextFault::Limit {
+            which: Limit::Pairs,
+            line: 0,
+        });
     }
+    Ok(job)
 }
 
-/// The answer for a text, as one fact.
-fn answer_of(alloc: Global, bytes: &[u8]) -> Result<JobTree, ReadError>
-    ensures { IsAnswer bytes.now result }
-{
-    let found = tokens_to_end(alloc, bytes)?;
-    match job_of(alloc, found.as_slice()) {
-        Ok((job, _)) => Ok(job),
-        Err(e) => Err(e),
-    }
-}
-
-/// The job that a text spells, with its names and numbers as they are written.
+/// The job that the bytes of a text spell, typed and within all limits.
 ///
-/// Only the lines of the grammar in `docs/LANGUAGE.md` are read: a link, a join, a `where` or a literal is refused like
-/// any other wrong token. `At` comes at the first token that no text of that grammar has behind the tokens before it,
-/// and `Limit` at the first token that passes a limit, where it could go on; the earlier token decides, and at one token
-/// `At` comes first. Both say how many tokens are left there: the token itself, those behind it, and the end of the text
-/// as one. Columns of kind key are not counted. Names may be unknown, or stand twice. Want of memory may come instead.
-pub fn read_tree(alloc: Global, bytes: &[u8]) -> Result<JobTree, ReadError>
-    ensures found { IfOk result (λ t. IsTreeText bytes.now t) }
-    ensures only { (t : JobTree) → IsTreeText bytes.now t → (result ≡ Ok t) ⊎ (result ≡ Err ReadError.Memory) }
-    ensures wrong { (left : ℕ) → result ≡ Err (ReadError.At left) → IsWrongAt bytes.now left }
-    ensures only_wrong { (left : ℕ) → IsWrongAt bytes.now left → (result ≡ Err (ReadError.At left)) ⊎ (result ≡ Err ReadError.Memory) }
-    ensures past { (which : Limit) (left : ℕ) → result ≡ Err (ReadError.Limit which left) → IsPastAt which bytes.now left }
-    ensures only_past { (which : Limit) (left : ℕ) → IsPastAt which bytes.now left → (result ≡ Err (ReadError.Limit which left)) ⊎ (result ≡ Err ReadError.Memory) }
+/// The grammar, the typing rules and the limits stand in `docs/LANGUAGE.md`. `At` comes at the first token that no text of
+/// the grammar has behind the tokens before it, or at the end of the bytes where all tokens could go on; its line and
+/// column count from 1, columns in bytes. `Limit` comes with the line of the first token that passes a limit, where it
+/// could go on. The earlier token decides, and at one token `At` comes first. A whole text is then tested by the typing
+/// rules: `Typing` tells the first that is broken, by the old schema, the new one, the program and the hints. At last
+/// `Limit` of `Pairs` comes, in line 0, where more than 256 pairs of an old and a new column have one kind. `Memory` may
+/// come in place of any answer. The bytes are fewer than 2^31. The time is linear in the bytes.
+pub fn read_job(alloc: Global, bytes: &[u8]) -> Result<Job, TextFault>
+    requires { length bytes.now < 2147483648 }
+    ensures found { IfOk result (λ job. IsTypedJobText bytes.now job) }
+    ensures only { (job : Job) → IsTypedJobText bytes.now job → (result ≡ Ok job) ⊎ (result ≡ Err fault.Memory) }
+    ensures wrong { (line column : ℕ) → result ≡ Err (fault.At line column) → StandsWrong job_tokens IsJobTree bytes.now line column }
+    ensures only_wrong { (line column : ℕ) → StandsWrong job_tokens IsJobTree bytes.now line column → (result ≡ Err (fault.At line column)) ⊎ (result ≡ Err fault.Memory) }
+    ensures past { (which : Limit) (line : ℕ) → 0 < line → result ≡ Err (fault.Limit which line) → StandsPast job_tokens IsJobTree which bytes.now line }
+    ensures only_past { (which : Limit) (line : ℕ) → StandsPast job_tokens IsJobTree which bytes.now line → (result ≡ Err (fault.Limit which line)) ⊎ (result ≡ Err fault.Memory) }
+    ensures typing { (f : TypeFault) → result ≡ Err (fault.Typing f) → IsMistypedJobText bytes.now f }
+    ensures only_typing { (f : TypeFault) → IsMistypedJobText bytes.now f → (result ≡ Err (fault.Typing f)) ⊎ (result ≡ Err fault.Memory) }
+    ensures pairs { (which : Limit) → result ≡ Err (fault.Limit which 0) → (which ≡ limit.Pairs) × HasManyPairs bytes.now }
+    ensures only_pairs { HasManyPairs bytes.now → (result ≡ Err (fault.Limit limit.Pairs 0)) ⊎ (result ≡ Err fault.Memory) }
+    ensures within { (job : Job) → IsJobText bytes.now job → IsProgramWithin job.program }
 {
-    answer_of(alloc, bytes)
+    job_with_pairs(alloc, bytes)
 }

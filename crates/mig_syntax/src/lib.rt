@@ -1,30 +1,21 @@
-//! The texts of jobs: read into trees of names, and then into jobs.
+//! The texts of jobs and of programs over a schema: read, with their names numbered, and tested by all rules and limits.
 #![tactic(auto)]
 
-mod bytes;
-mod columns;
 mod fault;
-mod functions;
 mod jobs;
-mod lex;
-mod limits;
-mod lists;
 mod naming;
-mod numbers;
-mod pieces;
-mod reading;
-mod schemas;
-mod selects;
-mod statements;
+#[cfg(test)]
+mod pair_tests;
+mod pairs;
+#[cfg(test)]
+mod program_tests;
+mod programs;
 #[cfg(test)]
 mod tests;
-mod token;
-mod tree;
-mod words;
+mod typing;
 
-pub use fault::{Limit, ReadError, TextFault};
-pub use jobs::read_tree;
-pub use reading::read_job;
-pub use tree::{
-    AssignTree, BodyTree, ColName, FunctionTree, HintTree, JobTree, SelectTree, StmtTree,
-};
+pub use fault::TextFault;
+pub use jobs::read_job;
+pub use mig_grammar::{Limit, Misread, read_functions, read_tree};
+pub use mig_printing::print_program;
+pub use programs::read_program;

@@ -1,102 +1,21 @@
 // From names to numbers: the job that a tree of names says.
-ghost use Rattle.std.specs.Prelude.{◌≡◌, IfOk, [], map};
+ghost use Rattle.std.specs.Prelude.{◌≡◌, IfOk, map};
 ghost use Rattle.mig_syntax.specs.Naming as spec;
 
-use crate::naming::places::{col_of, param_of, table_of};
-use crate::numbers::weight_of;
-use crate::tree::{
-    AssignTree, BodyTree, ColName, FunctionTree, HintTree, JobTree, SelectTree, StmtTree,
-};
-use mig_schema::{
-    Assign, Body, ColId, Cond, Exact, Function, Hint, Job, Join, Param, Program, Query, Scalar,
-    Schema, Seq, Stmt, Table, Txt,
-};
+use crate::naming::conditions::{cond_of, join_of};
+use crate::naming::places::col_of;
+use crate::naming::schemas::{all_hints_of, schema_of};
+use crate::naming::statements::stmts_of;
+use mig_grammar::{BodyTree, ColName, FunctionTree, JobTree, SelectTree};
+use mig_schema::{Body, ColId, Exact, Function, Job, Param, Program, Query, Seq, Table};
 use std::alloc::{AllocError, Global};
 
+mod conditions;
 mod places;
+mod schemas;
+mod statements;
 #[cfg(test)]
 mod tests;
-
-/// A value for a column, by their numbers.
-fn assign_of(tables: &[Table], params: &[Param], assign: &AssignTree) -> Assign
-    ensures { result ≡ spec.assign_of tables.now params.now assign.now }
-{
-    Assign {
-        column: col_of(tables, &assign.column),
-        value: Scalar::Param(param_of(params, &assign.value)),
-    }
-}
-
-/// Values for columns, by their numbers.
-fn assigns_of(
-    alloc: Global,
-    tables: &[Table],
-    params: &[Param],
-    assigns: &[AssignTree],
-) -> Result<Vec<Assign>, AllocError>
-    ensures { IfOk result (λ v. v.items ≡ map (spec.assign_of tables.now params.now) assigns.now) }
-{
-    assigns
-        .iter()
-        .map(|a| assign_of(tables, params, a))
-        .collect(alloc)
-}
-
-/// The join of one table alone.
-fn join_of(alloc: Global, tables: &[Table], name: &Txt) -> Join
-    ensures { result ≡ spec.join_of tables.now name.now }
-{
-    Join {
-        first: table_of(tables, name),
-        more: Seq::new(alloc),
-    }
-}
-
-/// A statement with numbers.
-fn stmt_of(
-    alloc: Global,
-    tables: &[Table],
-    params: &[Param],
-    stmt: &StmtTree,
-) -> Result<Stmt, AllocError>
-    ensures { IfOk result (λ s. s ≡ spec.stmt_of tables.now params.now stmt.now) }
-{
-    match stmt {
-        StmtTree::Insert { table, values } => {
-            let join = join_of(alloc, tables, table);
-            let values = assigns_of(alloc, tables, params, values.as_slice())?;
-            Ok(Stmt::Insert {
-                join,
-                values: Seq::from_vec(values),
-            })
-        }
-    }
-}
-
-/// Statements with numbers.
-fn stmts_of(
-    alloc: Global,
-    tables: &[Table],
-    params: &[Param],
-    stmts: &[StmtTree],
-) -> Result<Vec<Stmt>, AllocError>
-    ensures { IfOk result (λ v. v.items ≡ map (spec.stmt_of tables.now params.now) stmts.now) }
-{
-    let mut all = Vec::with_capacity(alloc, stmts.len())?;
-    for stmt in stmts {
-        all.push(stmt_of(alloc, tables, params, stmt)?)?;
-    }
-    Ok(all)
-}
-
-/// The condition of a text without `where`: one empty case.
-fn no_where(alloc: Global) -> Result<Cond, AllocError>
-    ensures { IfOk result (λ c. c ≡ spec.no_where) }
-{
-    let mut cases = Seq::new(alloc);
-    cases.push(Seq::new(alloc))?;
-    Ok(Cond { cases })
-}
 
 /// Columns, by their numbers.
 fn cols_of(alloc: Global, tables: &[Table], names: &[ColName]) -> Result<Vec<ColId>, AllocError>
@@ -106,14 +25,20 @@ fn cols_of(alloc: Global, tables: &[Table], names: &[ColName]) -> Result<Vec<Col
 }
 
 /// A query with numbers.
-fn query_of(alloc: Global, tables: &[Table], select: &SelectTree) -> Result<Query, AllocError>
-    ensures { IfOk result (λ q. q ≡ spec.query_of tables.now select.now) }
+fn query_of(
+    alloc: Global,
+    tables: &[Table],
+    params: &[Param],
+    select: &SelectTree,
+) -> Result<Query, AllocError>
+    ensures { IfOk result (λ q. q ≡ spec.query_of tables.now params.now select.now) }
 {
     let columns = cols_of(alloc, tables, select.columns.as_slice())?;
-    let cond = no_where(alloc)?;
+    let join = join_of(alloc, tables, &select.rows.join)?;
+    let cond = cond_of(alloc, tables, params, select.rows.cases.as_slice())?;
     Ok(Query {
         columns: Seq::from_vec(columns),
-        join: join_of(alloc, tables, &select.table),
+        join,
         cond,
     })
 }
@@ -132,7 +57,7 @@ fn body_of(
             let stmts = stmts_of(alloc, tables, params, stmts.as_slice())?;
             Ok(Body::Update(Seq::from_vec(stmts)))
         }
-        BodyTree::Query(select) => Ok(Body::Query(query_of(alloc, tables, select)?)),
+        BodyTree::Query(select) => Ok(Body::Query(query_of(alloc, tables, params, select)?)),
     }
 }
 
@@ -165,58 +90,35 @@ fn functions_of(
     Ok(all)
 }
 
-/// A hint with numbers.
-fn hint_of(source: &[Table], target: &[Table], hint: &HintTree) -> Hint
-    ensures { result ≡ spec.hint_of source.now target.now hint.now }
-{
-    Hint {
-        source: col_of(source, &hint.source),
-        target: col_of(target, &hint.target),
-        weight: weight_of(hint.weight.as_slice()),
-    }
-}
-
-/// Hints with numbers.
-fn hints_of(
+/// A program over these tables, with numbers.
+pub(crate) fn program_of(
     alloc: Global,
-    source: &[Table],
-    target: &[Table],
-    hints: &[HintTree],
-) -> Result<Vec<Hint>, AllocError>
-    ensures { IfOk result (λ v. v.items ≡ map (spec.hint_of source.now target.now) hints.now) }
+    tables: &[Table],
+    functions: &[FunctionTree],
+) -> Result<Program, AllocError>
+    ensures { IfOk result (λ p. p ≡ spec.program_of tables.now functions.now) }
 {
-    hints
-        .iter()
-        .map(|h| hint_of(source, target, h))
-        .collect(alloc)
-}
-
-/// A schema of these tables, without links.
-fn schema_of(alloc: Global, tables: &Seq<Table>) -> Result<Schema, AllocError>
-    ensures { IfOk result (λ s. s ≡ record { tables = tables.now; links = [] }) }
-{
-    let tables = tables.twin(alloc)?;
-    Ok(Schema {
-        tables,
-        links: Seq::new(alloc),
+    let functions = functions_of(alloc, tables, functions)?;
+    Ok(Program {
+        functions: Seq::from_vec(functions),
     })
 }
 
 /// The job that a tree says: each name is replaced by the number of the first table, column or parameter of that name,
-/// or by 4294967295 where there is none. A hint's weight is the number that its digits spell, or 0 where that is not 1 to 100.
-/// The only error is want of memory.
+/// or by 4294967295 where there is none. A hint's weight is the number that its digits spell, or 0 where that is not
+/// 1 to 100; likewise a label that is not 0 to 15, and an int out of the range of i64, are 0. The only error is want of
+/// memory.
 pub(crate) fn job_of_tree(alloc: Global, tree: &JobTree) -> Result<Job, AllocError>
     ensures { IfOk result (λ j. j ≡ spec.job_of tree.now) }
 {
-    let old = tree.source.as_slice();
-    let functions = functions_of(alloc, old, tree.functions.as_slice())?;
-    let hints = hints_of(alloc, old, tree.target.as_slice(), tree.hints.as_slice())?;
+    let old = tree.source.tables.as_slice();
+    let new = tree.target.tables.as_slice();
+    let program = program_of(alloc, old, tree.functions.as_slice())?;
+    let hints = all_hints_of(alloc, old, new, &tree.hints)?;
     Ok(Job {
         source: schema_of(alloc, &tree.source)?,
         target: schema_of(alloc, &tree.target)?,
-        program: Program {
-            functions: Seq::from_vec(functions),
-        },
+        program,
         hints: Seq::from_vec(hints),
     })
 }

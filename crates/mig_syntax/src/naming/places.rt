@@ -5,7 +5,7 @@ ghost use Rattle.std.specs.Option.{option_copied};
 ghost use Rattle.std.specs.Str.{bytes_eq};
 ghost use Rattle.mig_syntax.specs.Naming as spec;
 
-use crate::tree::ColName;
+use mig_grammar::ColName;
 use mig_schema::{ColId, Column, Param, Table, Txt, same_text};
 
 /// The number that stands for a name which is not found.

@@ -1,7 +1,8 @@
 // A job from a tree with names that are there and names that are not.
 use super::job_of_tree;
-use crate::tree::{
-    AssignTree, BodyTree, ColName, FunctionTree, HintTree, JobTree, SelectTree, StmtTree,
+use mig_grammar::{
+    AssignTree, BodyTree, ColName, FunctionTree, HintTree, JobTree, JoinTree, RowsTree, ScalarTree,
+    SchemaTree, SelectTree, StmtTree, ValueTree,
 };
 use mig_schema::{Body, ColId, Column, Hint, Job, Kind, Param, Scalar, Seq, Stmt, Table, Txt};
 use std::alloc::{AllocError, Global};
@@ -64,6 +65,23 @@ fn hints(alloc: Global) -> Result<Seq<HintTree>, AllocError> {
     Ok(hints)
 }
 
+/// The join of one table alone.
+fn join(alloc: Global, name: &str) -> Result<JoinTree, AllocError> {
+    let first = txt(alloc, name)?;
+    Ok(JoinTree {
+        first,
+        more: Seq::new(alloc),
+    })
+}
+
+/// A schema without links.
+fn schema(alloc: Global, tables: Seq<Table>) -> SchemaTree {
+    SchemaTree {
+        tables,
+        links: Seq::new(alloc),
+    }
+}
+
 /// An insert of the second parameter into a column of the second table.
 fn update(alloc: Global) -> Result<FunctionTree, AllocError> {
     let mut params = Seq::new(alloc);
@@ -75,10 +93,10 @@ fn update(alloc: Global) -> Result<FunctionTree, AllocError> {
         })?;
     }
     let column = col(alloc, "group", "nick")?;
-    let value = txt(alloc, "b")?;
+    let value = ValueTree::Scalar(ScalarTree::Name(txt(alloc, "b")?));
     let values = one(alloc, AssignTree { column, value })?;
-    let table = txt(alloc, "group")?;
-    let stmts = one(alloc, StmtTree::Insert { table, values })?;
+    let join = join(alloc, "group")?;
+    let stmts = one(alloc, StmtTree::Insert { join, values })?;
     let name = txt(alloc, "put")?;
     Ok(FunctionTree {
         name,
@@ -90,9 +108,13 @@ fn update(alloc: Global) -> Result<FunctionTree, AllocError> {
 fn query(alloc: Global) -> Result<FunctionTree, AllocError> {
     let column = col(alloc, "user", "nick")?;
     let columns = one(alloc, column)?;
-    let table = txt(alloc, "user")?;
+    let join = join(alloc, "user")?;
+    let rows = RowsTree {
+        join,
+        cases: Seq::new(alloc),
+    };
     let name = txt(alloc, "get")?;
-    let body = BodyTree::Query(SelectTree { columns, table });
+    let body = BodyTree::Query(SelectTree { columns, rows });
     Ok(FunctionTree {
         name,
         params: Seq::new(alloc),
@@ -113,10 +135,10 @@ fn tree(alloc: Global) -> Result<JobTree, AllocError> {
     functions.push(get)?;
     let hints = hints(alloc)?;
     Ok(JobTree {
-        source,
-        target,
+        source: schema(alloc, source),
+        target: schema(alloc, target),
         functions,
-        hints,
+        hints: Some(hints),
     })
 }
 

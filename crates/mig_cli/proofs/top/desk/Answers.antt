@@ -1,3 +1,4 @@
+use Rattle.std.proofs.Common.{◌≡◌, inl, inr, sym, ◌∙◌}
 use Rattle.mig_cli.proofs.Ended.{right, complete, under_way, short}
 use Rattle.mig_cli.proofs.Migrated.{right-migrates}
 use Rattle.mig_cli.proofs.top.desk.Goals as goal
@@ -27,3 +28,11 @@ returns-in-Ok-clause-cut g c =
 
 pub returns-in-Err-clause-complete : goal.returns-in-Err-clause-complete
 returns-in-Err-clause-complete g c = short _ _ _ _ _ _ _ _ c.finish-in-Err.result _ _ _ _ c.finish-in-Err.ensures.status c.finish-in-Err.ensures.whole c.finish-in-Err.ensures.fault
+
+pub returns-in-Ok-clause-refused : goal.returns-in-Ok-clause-refused
+returns-in-Ok-clause-refused g c =
+    λ one file n.
+    elim c.finish.ensures.status [
+      | inl is ↦ c.in-Ok.ensures.refused (sym is ∙ one) file n
+      | inr seven ↦ absurd (let odd : 1 ≡ 7 = sym one ∙ seven in cc)
+    ]

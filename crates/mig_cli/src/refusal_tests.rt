@@ -1,0 +1,201 @@
+// Words, files and texts that are refused, each with its line.
+use crate::calling::{HINTS, NEW, OLD, PROGRAM, ample, called, joined, migrated};
+use std::test::Fail;
+
+/// Words, their status and their line. No other file than `job` is there.
+const WORDS: [(&[&str], u8, &str); 13] = [
+    (&[], 1, "words: no command\n"),
+    (&["move"], 1, "words: unknown word 1\n"),
+    (&["migrate"], 1, "words: missing\n"),
+    (&["migrate", "a", "b"], 1, "words: unknown word 3\n"),
+    (
+        &["migrate", "a", "--budget", "0"],
+        1,
+        "words: number at 4\n",
+    ),
+    (
+        &["migrate", "a", "--budget", "5", "--budget", "5"],
+        1,
+        "words: twice at 5\n",
+    ),
+    (&["check", "job"], 1, "words: missing\n"),
+    (&["check", "job", "job"], 1, "words: not built\n"),
+    (&["run", "job", "job"], 1, "words: not built\n"),
+    (&["run", "job", "job", "job"], 1, "words: not built\n"),
+    (&["trial", "1"], 1, "words: not built\n"),
+    (&["migrate", "jo"], 6, "jo: cannot read\n"),
+    (&["migrate", ""], 6, ": cannot read\n"),
+];
+
+/// Texts in four parts that are not answered, their status and their line.
+const TEXTS: [([&str; 4], u8, &str); 15] = [
+    (
+        ["old\ntable t { a: int, }\n", "", "", ""],
+        2,
+        "job:2:19: not expected\n",
+    ),
+    (
+        [
+            OLD,
+            NEW,
+            PROGRAM,
+            "hints\nhint user.uid -> person.id 100;\n}",
+        ],
+        2,
+        "job:14:1: not expected\n",
+    ),
+    (
+        [
+            "old\ntable a_name_of_33_bytes_is_one_too_lon { a: int }\n",
+            NEW,
+            PROGRAM,
+            HINTS,
+        ],
+        10,
+        "job:2: limit name\n",
+    ),
+    (
+        [
+            OLD,
+            NEW,
+            PROGRAM,
+            "hints\nhint user.uid -> person.id 101;\n",
+        ],
+        10,
+        "job:13: limit hint\n",
+    ),
+    (
+        [
+            OLD,
+            NEW,
+            "program\nquery all() {\n  select user.uid from user where user.uid = 9223372036854775808;\n}\n",
+            HINTS,
+        ],
+        10,
+        "job:7: limit int\n",
+    ),
+    (
+        [
+            "old\ntable user { uid: int, nick: text }\ntable user { uid: int, nick: text }\n",
+            NEW,
+            PROGRAM,
+            HINTS,
+        ],
+        2,
+        "job: OldTableTwice at 1 0\n",
+    ),
+    (
+        [
+            "old\ntable user { uid: int, nick: text }\nlink user.uid = user.uid;\n",
+            NEW,
+            PROGRAM,
+            HINTS,
+        ],
+        2,
+        "job: OldLinkTables at 0 0\n",
+    ),
+    (
+        [
+            OLD,
+            "new\ntable person { id: int, nick: text, id: int }\n",
+            PROGRAM,
+            HINTS,
+        ],
+        2,
+        "job: NewColumnTwice at 0 2\n",
+    ),
+    (
+        [
+            OLD,
+            NEW,
+            "program\nupdate add(id: int) {\n  insert into user { user.uid = id };\n}\n",
+            HINTS,
+        ],
+        2,
+        "job: InsertCover at 0 0\n",
+    ),
+    (
+        [
+            OLD,
+            NEW,
+            "program\nupdate add(id: int) {\n  insert into user { user.uid = id, user.nick = \"\" };\n}\nquery get() {\n  select user.uid from user where user.nick < \"b\";\n}\n",
+            HINTS,
+        ],
+        2,
+        "job: OrderKind at 1 0\n",
+    ),
+    (
+        [
+            OLD,
+            NEW,
+            PROGRAM,
+            "hints\nhint user.uid -> person.id 100;\nhint user.nick -> person.nick 100;\nhint user.nick -> person.nick 100;\n",
+        ],
+        2,
+        "job: HintTwice at 2 0\n",
+    ),
+    (
+        [
+            OLD,
+            "new\ntable user { id: int, nick: text }\n",
+            PROGRAM,
+            "hints\nhint user.uid -> user.id 100;\nhint user.nick -> user.nick 100;\n",
+        ],
+        2,
+        "job:0:0: not built\n",
+    ),
+    (
+        [
+            OLD,
+            NEW,
+            "program\nquery all() {\n  select user.uid from user where user.uid = 1;\n}\n",
+            HINTS,
+        ],
+        2,
+        "job:0:0: not built\n",
+    ),
+    (
+        [
+            OLD,
+            NEW,
+            PROGRAM,
+            "hints\nhint user.uid -> person.id 100;\n",
+        ],
+        2,
+        "job:0:0: not built\n",
+    ),
+    ([OLD, NEW, PROGRAM, ""], 2, "job:0:0: not built\n"),
+];
+
+/// A schema of seventeen tables, each in a line of its own.
+const TABLES: &str =
+    "old\ntable t0 { a: int }\ntable t1 { a: int }\ntable t2 { a: int }\ntable t3 { a: int }\ntable t4 { a: int }\ntable t5 { a: int }\ntable t6 { a: int }\ntable t7 { a: int }\ntable t8 { a: int }\ntable t9 { a: int }\ntable t10 { a: int }\ntable t11 { a: int }\ntable t12 { a: int }\ntable t13 { a: int }\ntable t14 { a: int }\ntable t15 { a: int }\ntable t16 { a: int }\n";
+
+#[test]
+fn words_and_missing_files_are_refused(rt: HostRuntime) -> Result<(), Fail> {
+    for (list, status, report) in WORDS {
+        let text = joined(rt.alloc(), &[OLD, NEW, PROGRAM, HINTS])?;
+        let ended = called(
+            rt.alloc(),
+            list,
+            text,
+            ample(rt.alloc())?,
+            ample(rt.alloc())?,
+        )?;
+        assert!(rt; ended.is(status, &[], report), "{list:?}");
+    }
+    Ok(())
+}
+
+#[test]
+fn texts_are_refused_with_their_lines(rt: HostRuntime) -> Result<(), Fail> {
+    for (parts, status, report) in TEXTS.iter() {
+        let text = joined(rt.alloc(), parts)?;
+        let ended = migrated(rt.alloc(), text, ample(rt.alloc())?)?;
+        assert!(rt; ended.is(*status, &[], report), "{report:?}");
+    }
+    let text = joined(rt.alloc(), &[TABLES, NEW, PROGRAM, HINTS])?;
+    let ended = migrated(rt.alloc(), text, ample(rt.alloc())?)?;
+    assert!(rt; ended.is(10, &[], "job:18: limit tables\n"));
+    Ok(())
+}
