@@ -1,0 +1,6 @@
+pub mod Fields
+pub mod Law
+pub mod Order
+pub mod Reading
+pub mod Writing
+pub mod Written
