@@ -1,11 +1,12 @@
 -- A trail keeps its values where it grows and where it shrinks.
-use Rattle.std.proofs.Common.{◌≡◌, ℕ, ◌+◌, ◌<◌, ◌≤◌, Bool, cond, List, [], ◌∷◌, length, get_or, set, Option, Some, None, is_none, refl, sym, ◌∙◌, arith, inl, inr, replicate, count_by, All, suc, zero}
-use Rattle.std.proofs.lemmas.List.{get_or-replicate, length-replicate, get_or-set_same, get_or-set_other, length-set}
+use Rattle.std.proofs.Common.{◌≡◌, ℕ, ◌+◌, ◌<◌, ◌≤◌, Bool, cond, List, [], ◌∷◌, length, get_or, set, Option, Some, None, is_none, refl, ap, sym, ◌∙◌, arith, reverse, inl, inr, replicate, count_by, All, suc, zero}
+use Rattle.std.proofs.lemmas.List.{get_or-replicate, length-replicate, get_or-set_same, get_or-set_other, length-set, reverse-reverse}
 use Rattle.std.proofs.lemmas.List.Sums.{sum_by-set, get_or-le-sum_by}
 use Rattle.std.proofs.lemmas.List.Folds.{sum_by-replicate}
 use Rattle.std.proofs.lemmas.Bool.{cases_eq, eq-eqb, ne_eqb}
 use Rattle.mig_sat.specs.declared.steps.Step.{Step}
-use Rattle.mig_sat.specs.Steps.{value_at}
+use Rattle.std.specs.Prelude.{option_map, slice_get}
+use Rattle.mig_sat.specs.Steps.{value_at, lit_at}
 use Rattle.mig_sat.specs.TrailInside.{Keeps}
 
 abbrev free_at : Option Bool → ℕ
@@ -71,3 +72,7 @@ Keeps-pop values steps s k =
           let change' : count_by is_none (set values s.lit.var None) + 0 ≡ count_by is_none values + 1 = rw is at change in
           rw length-set (omega (arith, k.room, change'));
     }
+
+-- the literal of a step, counted from the oldest
+pub lit_kept : (items : List Step) (k : ℕ) → option_map (λ (s : Step). s.lit) (slice_get items k) ≡ lit_at (reverse items) k
+lit_kept items k = ap (λ xs. option_map (λ (s : Step). s.lit) (slice_get xs k)) (sym (reverse-reverse items))

@@ -1,8 +1,13 @@
+pub mod Ahead
 pub mod Fewer
 pub mod Firsts
 pub mod Following
+pub mod Growing
+pub mod Heeding
 pub mod Keeping
 pub mod Measure
+pub mod Opening
+pub mod Places
 pub mod Progress
 pub mod Refuting
 pub mod Unique

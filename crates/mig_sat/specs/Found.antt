@@ -1,19 +1,11 @@
 -- What is found of clauses under the steps of a search, and what is done about it.
-use Rattle.std.specs.Prelude.{◌≡◌, ℕ, ◌<◌, ◌⊎◌, Bool, true, false, List, ◌∷◌, Option, Some, None, All, Any}
+use Rattle.std.specs.Prelude.{◌≡◌, ℕ, ◌<◌, Bool, true, false, List, ◌∷◌, Option, Some, None, All, Any}
 use Rattle.mig_sat.specs.declared.clauses.SatLit.{SatLit}
 use Rattle.mig_sat.specs.declared.steps.Step.{Step}
-use Rattle.mig_sat.specs.declared.steps.Judged.{Judged}
-use Rattle.mig_sat.specs.declared.steps.Judged.TheVariants.{Falsified, Unit as UnitClause, Open}
 use Rattle.mig_sat.specs.declared.steps.Found.{Found}
 use Rattle.mig_sat.specs.declared.steps.Found.TheVariants.{Conflict, Forced, Free, Full}
 use Rattle.mig_sat.specs.Models.{HoldsLit}
-use Rattle.mig_sat.specs.Steps.{value_at, HasValuesBelow, IsFalse, IsNotFalse, FollowsAll, turned_back}
-
--- what a clause is under the steps
-abbrev pub IsJudged : List Step → ℕ → List SatLit → Judged → Type 0
-IsJudged steps size clause Falsified = All (IsFalse steps) clause
-IsJudged steps size clause (UnitClause l) = (l.var < size) × (value_at l.var steps ≡ None) × All (λ k. IsFalse steps k ⊎ (k ≡ l)) clause
-IsJudged steps size clause Open = Unit {0}
+use Rattle.mig_sat.specs.Steps.{value_at, HasValuesBelow, IsNotFalse, FollowsAll, turned_back}
 
 -- none of M follows the steps
 abbrev pub IsUnfollowed : (List Bool → Type 0) → List Step → Type 0

@@ -1,5 +1,5 @@
 -- The steps of a search, the newest first, and when they are right. M is what is searched for, as the models of clauses.
-use Rattle.std.specs.Prelude.{◌≡◌, ◌≢◌, ℕ, ◌<◌, ◌==◌, Bool, true, false, not, if◌then◌else◌, List, [], ◌∷◌, Option, Some, None}
+use Rattle.std.specs.Prelude.{◌≡◌, ◌≢◌, ℕ, ◌<◌, ◌==◌, Bool, true, false, not, if◌then◌else◌, List, [], ◌∷◌, Option, Some, None, option_map, reverse, slice_get}
 use Rattle.mig_sat.specs.declared.clauses.SatLit.{SatLit}
 use Rattle.mig_sat.specs.declared.steps.Step.{Step}
 use Rattle.mig_sat.specs.Models.{HoldsLit}
@@ -13,6 +13,10 @@ pub record Path : Type 0 where
 abbrev pub value_at : ℕ → List Step → Option Bool
 value_at v [] = None
 value_at v (s ∷ older) = if v == s.lit.var then Some s.lit.positive else value_at v older
+
+-- the literal of a step, counted from the oldest, 0
+abbrev pub lit_at : List Step → ℕ → Option SatLit
+lit_at steps k = option_map (λ (s : Step). s.lit) (slice_get (reverse steps) k)
 
 -- each variable below n has a value
 abbrev pub HasValuesBelow : List Step → ℕ → Type 0

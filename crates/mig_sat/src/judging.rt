@@ -1,8 +1,9 @@
 // What a clause is under some steps.
-ghost use Rattle.std.specs.Prelude.{◌≡◌, ◌<◌, ℕ, All, IfSome, MatchBool, Any};
+ghost use Rattle.std.specs.Prelude.{◌≡◌, ◌<◌, ℕ, All, IfSome, MatchOption, MatchBool, Any, slice_get};
 ghost use Rattle.mig_sat.specs.Models.{IsInRange, IsModel};
 ghost use Rattle.mig_sat.specs.Steps.{IsFalse, IsNotFalse, FollowsAll};
-ghost use Rattle.mig_sat.specs.Found.{IsJudged, IsFound};
+ghost use Rattle.mig_sat.specs.Found.{IsFound};
+ghost use Rattle.mig_sat.specs.Saying.{IsJudged, IsSaid, IsSilent};
 ghost use Rattle.mig_sat.specs.declared.clauses.SatLit.{SatLit as Lit};
 
 use crate::clauses::{Cnf, SatLit};
@@ -37,11 +38,13 @@ fn judge(clause: &Seq<SatLit>, trail: &Trail) -> Judged
     }
 }
 
-/// What the clause of this number says: a conflict or a forced literal; `None` where it says nothing, or is missing.
+/// What the clause of this number says: a conflict or a forced literal; `None` where it is missing or open,
+/// that is where a literal is true, or literals at two places have no value.
 pub fn told(cnf: &Cnf, number: usize, trail: &Trail) -> Option<Found>
     requires range { IsInRange cnf.now }
     requires size { trail.now.size ≡ cnf.now.vars }
-    ensures { IfSome result (λ f. IsFound cnf.now.clauses cnf.now.vars (IsModel cnf.now) trail.now.steps f) }
+    ensures found { IfSome result (λ f. IsFound cnf.now.clauses cnf.now.vars (IsModel cnf.now) trail.now.steps f) }
+    ensures said { MatchOption result (IsSilent trail.now.steps (slice_get cnf.now.clauses number)) (λ f. IsSaid trail.now.steps (slice_get cnf.now.clauses number) f) }
 {
     match judge(cnf.clauses.get(number)?, trail) {
         Judged::Falsified => Some(Found::Conflict),

@@ -8,7 +8,9 @@ mod exact;
 mod judging;
 #[cfg(test)]
 mod listed_tests;
+mod listing;
 mod looking;
+mod queue;
 mod solving;
 mod steps;
 #[cfg(test)]

@@ -1,8 +1,9 @@
 // What the clauses are under some steps.
-ghost use Rattle.std.specs.Prelude.{◌≡◌, MatchBool, All, Any};
+ghost use Rattle.std.specs.Prelude.{◌≡◌, ◌⊎◌, MatchBool, All, Any};
 ghost use Rattle.mig_sat.specs.Models.{IsInRange, IsModel};
 ghost use Rattle.mig_sat.specs.Steps.{IsNotFalse, FollowsAll};
 ghost use Rattle.mig_sat.specs.Found.{IsFound, IsUnfollowed};
+ghost use Rattle.mig_sat.specs.Agendas.{IsThrough, StopsAt};
 
 use crate::agenda::Agenda;
 use crate::clauses::Cnf;
@@ -30,7 +31,9 @@ fn is_unbroken(cnf: &Cnf, trail: &Trail) -> bool
 pub fn look(cnf: &Cnf, agenda: &mut Agenda, trail: &Trail) -> Found
     requires range { IsInRange cnf.now }
     requires size { trail.now.size ≡ cnf.now.vars }
-    ensures { IsFound cnf.now.clauses cnf.now.vars (IsModel cnf.now) trail.now.steps result }
+    ensures found { IsFound cnf.now.clauses cnf.now.vars (IsModel cnf.now) trail.now.steps result }
+    ensures lists { agenda.new.lists.items ≡ agenda.old.lists.items }
+    ensures heeded { IsThrough cnf.now.clauses agenda.old trail.now.steps ⊎ StopsAt cnf.now.clauses agenda.old agenda.new trail.now.steps result }
 {
     if let Some(found) = agenda.propagate(cnf, trail) {
         return found;

@@ -1,7 +1,7 @@
 // The steps of a search, with the value that they give each variable.
 ghost use Rattle.std.specs.Prelude.{◌≡◌, ℕ, ◌<◌, ◌∷◌, [], Some, length, OnOk, OnErr, IfOk, IfSome, IfNone, MatchOption, MatchBool, ◌≤◌, None};
 ghost use Rattle.mig_sat.specs.Models.{value_of};
-ghost use Rattle.mig_sat.specs.Steps.{value_at, HasValuesBelow, turned_back};
+ghost use Rattle.mig_sat.specs.Steps.{value_at, HasValuesBelow, turned_back, lit_at};
 
 use crate::clauses::{Model, SatLit};
 use crate::steps::Step;
@@ -49,8 +49,10 @@ impl Trail {
         self.steps.len()
     }
 
-    /// The literal of a step, counted from the oldest, 0.
-    pub fn lit(&self, at: usize) -> Option<SatLit> {
+    /// The literal of a step, counted from the oldest, 0; `None` where there is no such step.
+    pub(crate) fn lit(&self, at: usize) -> Option<SatLit>
+        ensures { result ≡ lit_at self.now.steps at }
+    {
         let step = self.steps.get(at)?;
         Some(step.lit)
     }

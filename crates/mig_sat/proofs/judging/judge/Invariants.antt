@@ -7,5 +7,5 @@ use Rattle.mig_sat.proofs.judging.judge.Given as goal
 abbrev pub invariant-loop-lit : goal.invariant-loop-lit
 invariant-loop-lit l = record {
   passed : (k : ℕ) (d : SatLit) → k < l.lit-index → IsFalse l.trail.steps (get_or l.clause k d) ⊎ (l.free ≡ Some (get_or l.clause k d));
-  free : IfSome l.free (λ f. (f.var < l.trail.size) × (value_at f.var l.trail.steps ≡ None));
+  free : IfSome l.free (λ f. (f.var < l.trail.size) × (value_at f.var l.trail.steps ≡ None) × ((p : ℕ) × (p < l.lit-index) × ((d : SatLit) → get_or l.clause p d ≡ f)));
 }
