@@ -1,5 +1,8 @@
 pub mod Absolute
 pub mod Bounding
+pub mod Costly
+pub mod Exact
+pub mod Leaving
 pub mod Paying
 pub mod Rivalry
 pub mod Unique

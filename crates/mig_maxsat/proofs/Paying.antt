@@ -1,5 +1,5 @@
 -- Weights become heavier by a cost, literal by literal.
-use Rattle.std.proofs.Common.{◌≡◌, ℕ, ◌+◌, ◌<◌, ◌≤◌, ◌≤ℤ◌, ◌<ℤ◌, ◌+ℤ◌, ◌⊎◌, ℤ, pos, Bool, List, length, get_or, set, refl, ap, sym, ◌∙◌, subst, inl, inr, arith, All, Any, below_more}
+use Rattle.std.proofs.Common.{◌≡◌, ℕ, ◌+◌, ◌<◌, ◌≤◌, ◌≤ℤ◌, ◌<ℤ◌, ◌+ℤ◌, ◌⊎◌, ℤ, pos, Bool, List, [], ◌∷◌, ◌++◌, length, get_or, set, refl, ap, sym, ◌∙◌, subst, inl, inr, arith, All, Any, below_more}
 use Rattle.std.proofs.lemmas.Int.{ints}
 use Rattle.std.proofs.lemmas.Bool.{cases_eq}
 use Rattle.std.proofs.lemmas.List.{get_or-set_same, get_or-set_other, length-set}
@@ -9,7 +9,7 @@ use Rattle.mig_sat.specs.Models.{HoldsLit}
 use Rattle.mig_sat.specs.Steps.{IsFalse, FollowsAll}
 use Rattle.mig_sat.proofs.Following.{false_not_held}
 use Rattle.mig_maxsat.specs.Heaviest.{weight, magnitude}
-use Rattle.mig_maxsat.specs.Bounds.{weight_of, CostsLit, IsPayment, IsPaid, IsRaised}
+use Rattle.mig_maxsat.specs.Bounds.{weight_of, CostsLit, IsPayment, ArePaid, IsPaid, IsRaised}
 use Rattle.mig_maxsat.proofs.Absolute.{abs_raised}
 use Rattle.mig_maxsat.proofs.Weights.{magnitude_set, heavier_at}
 
@@ -124,6 +124,11 @@ pays_all steps clause cost old now i p whole least = record {
   each = λ v. elim (p.each v) [ inl same ↦ omega (arith, ints, same) | inr heavier ↦ omega (arith, ints, heavier, least) ];
   paid = λ k d lt. p.paid k d (omega (arith, lt, whole));
 }
+
+-- one more literal is paid for
+pub paid_next : (steps : List Step) (clause : List SatLit) (l : SatLit) (cost : ℤ) (old now new : List ℤ) → ArePaid steps clause cost old now → IsPayment steps l cost now new → ArePaid steps (clause ++ l ∷ []) cost old new
+paid_next steps [] l cost old now new was here = (new, subst (λ ws. IsPayment steps l cost ws new) was here, refl)
+paid_next steps (x ∷ clause) l cost old now new was here = (was.0, was.1, paid_next steps clause l cost was.0 now new was.2 here)
 
 -- a model that follows the steps and meets the clause is heavier by the cost
 pub charged_by : (steps : List Step) (clause : List SatLit) (cost : ℤ) (old new : List ℤ) (m : List Bool) (size : ℕ) → IsRaised steps clause cost old new → All (λ (l : SatLit). l.var < size) clause → length old ≡ size → FollowsAll m steps → Any (HoldsLit m) clause → (weight old m +ℤ cost) ≤ℤ weight new m

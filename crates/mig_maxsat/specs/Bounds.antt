@@ -1,5 +1,5 @@
 -- Bounds on what models weigh that follow some steps.
-use Rattle.std.specs.Prelude.{◌≡◌, ◌⊎◌, ℕ, ◌≤◌, ◌≤ℤ◌, ◌<ℤ◌, ◌+ℤ◌, ℤ, pos, Bool, true, if◌then◌else◌, List, Option, Some, length, slice_index_or, slice_set, All}
+use Rattle.std.specs.Prelude.{◌≡◌, ◌⊎◌, ℕ, ◌≤◌, ◌≤ℤ◌, ◌<ℤ◌, ◌+ℤ◌, ℤ, pos, Bool, true, if◌then◌else◌, List, [], ◌∷◌, Option, Some, length, slice_index_or, slice_set, All}
 use Rattle.std.specs.Int.RustNames.{unsigned_abs}
 use Rattle.mig_sat.specs.declared.clauses.SatLit.{SatLit}
 use Rattle.mig_sat.specs.declared.steps.Step.{Step}
@@ -24,6 +24,11 @@ CostsLit steps ws cost l = IsFalse steps l ⊎ ((l.positive ≡ true) × ((weigh
 -- the variable's weight where the literal was paid for: it stays where the literal is false, or the cost would make it positive
 abbrev pub IsPayment : List Step → SatLit → ℤ → List ℤ → List ℤ → Type 0
 IsPayment steps l cost old new = (IsFalse steps l × (new ≡ old)) ⊎ ((IsNotFalse steps l × ((weight_of old l.var +ℤ cost) ≤ℤ pos 0) × (new ≡ slice_set old l.var (weight_of old l.var +ℤ cost))) ⊎ (IsNotFalse steps l × (pos 0 <ℤ (weight_of old l.var +ℤ cost)) × (new ≡ old)))
+
+-- the weights where each literal was paid for once, one after the other
+abbrev pub ArePaid : List Step → List SatLit → ℤ → List ℤ → List ℤ → Type 0
+ArePaid steps [] cost old new = new ≡ old
+ArePaid steps (l ∷ ls) cost old new = (mid : List ℤ) × IsPayment steps l cost old mid × ArePaid steps ls cost mid new
 
 -- the variable of the literal has become heavier by the cost
 abbrev pub IsPaid : List Step → List ℤ → List ℤ → ℤ → SatLit → Type 0

@@ -1,3 +1,4 @@
 pub mod Bounds
 pub mod Heaviest
+pub mod Losses
 pub mod Rivals

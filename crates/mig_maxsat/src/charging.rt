@@ -1,10 +1,11 @@
 // What clauses cost at least, put onto the weights of their variables.
-ghost use Rattle.std.specs.Prelude.{◌≡◌, ◌<◌, ◌≤◌, ◌^◌, ◌≤ℤ◌, ◌+ℤ◌, pos, List, Bool, length, All, Any, IfOk, IfSome};
+ghost use Rattle.std.specs.Prelude.{◌≡◌, ◌<◌, ◌≤◌, ◌^◌, ◌≤ℤ◌, ◌+ℤ◌, pos, List, Bool, length, slice_get, ◌⊎◌, ℕ, All, Any, IfOk, IfSome, IfNone};
 ghost use Rattle.mig_sat.specs.Models.{HoldsLit, IsModel};
 ghost use Rattle.mig_sat.specs.Steps.{FollowsAll};
 ghost use Rattle.mig_sat.specs.declared.clauses.SatLit.{SatLit as Lit};
 ghost use Rattle.mig_maxsat.specs.Heaviest.{weight, magnitude, IsSound};
-ghost use Rattle.mig_maxsat.specs.Bounds.{CostsLit, IsPayment, IsRaised, IsCharged};
+ghost use Rattle.mig_maxsat.specs.Bounds.{weight_of, CostsLit, IsPayment, ArePaid, IsRaised, IsCharged};
+ghost use Rattle.mig_maxsat.specs.Losses.{IsLossless, IsLossy, LosesLit, Loses, IsSpent, AreSpent, IsCharge, IsChargeAt, IsSum, AreCharged};
 
 use crate::weighted::Weighted;
 use mig_sat::{SatLit, Trail};
@@ -20,31 +21,39 @@ pub struct Charges {
     pub lost: i64,
 }
 
-/// The lesser of the cost and the loss by the literal, or the cost where it is false; `None` where it may be true without loss.
+/// The lesser of the cost and the loss by the literal, or the cost where it is false; `None` where it is true, or may be
+/// without loss.
 fn lesser(lit: SatLit, cost: i64, weights: &[i64], trail: &Trail) -> Option<i64>
     requires range { lit.var < trail.now.size }
     requires sized { length weights.now ≡ trail.now.size }
     requires fits { magnitude weights.now < 2 ^ 62 }
     ensures most { IfSome result (λ k. k ≤ℤ cost) }
     ensures costs { IfSome result (λ k. CostsLit trail.now.steps weights.now k lit) }
+    ensures loses { IfSome result (λ k. (k ≡ cost) ⊎ LosesLit trail.now.steps weights.now k lit) }
+    ensures lossy { IfSome result (λ k. IsLossy trail.now.steps weights.now lit) }
+    ensures none { IfNone result (IsLossless trail.now.steps weights.now lit) }
 {
-    if trail.value(lit.var) == Some(!lit.positive) {
+    let value = trail.value(lit.var);
+    if value == Some(!lit.positive) {
         return Some(cost);
     }
     let weight = weights[lit.var as usize];
-    if !lit.positive || weight >= 0 {
+    if value == Some(lit.positive) || !lit.positive || weight >= 0 {
         return None;
     }
     Some(cost.min(-weight))
 }
 
-/// What a model loses at least by its true literal of the clause; `None` where that may be nothing.
+/// What a model loses at least by its true literal of the clause; `None` where that may be nothing, or a literal is true already.
 fn cost(clause: &[SatLit], weights: &[i64], trail: &Trail) -> Option<i64>
     requires range { All (λ (l : Lit). l.var < trail.now.size) clause.now }
     requires sized { length weights.now ≡ trail.now.size }
     requires fits { magnitude weights.now < 2 ^ 62 }
     ensures most { IfSome result (λ k. k ≤ℤ pos (2 ^ 62)) }
     ensures costs { IfSome result (λ k. All (CostsLit trail.now.steps weights.now k) clause.now) }
+    ensures loses { IfSome result (λ k. Loses trail.now.steps clause.now weights.now k) }
+    ensures lossy { IfSome result (λ k. All (IsLossy trail.now.steps weights.now) clause.now) }
+    ensures none { IfNone result (Any (IsLossless trail.now.steps weights.now) clause.now) }
 {
     let mut cost = LIMIT;
     for lit in clause {
@@ -71,7 +80,7 @@ fn pay(lit: SatLit, cost: i64, weights: &mut [i64], trail: &Trail)
     }
 }
 
-/// Puts the cost onto the weights of the clause's variables, each once at least.
+/// Pays the cost for each literal of the clause, one after the other.
 fn pay_all(clause: &[SatLit], cost: i64, weights: &mut [i64], trail: &Trail)
     requires range { All (λ (l : Lit). l.var < trail.now.size) clause.now }
     requires sized { length weights.old ≡ trail.now.size }
@@ -79,14 +88,16 @@ fn pay_all(clause: &[SatLit], cost: i64, weights: &mut [i64], trail: &Trail)
     requires least { pos 0 ≤ℤ cost }
     requires most { cost ≤ℤ pos (2 ^ 62) }
     requires costs { All (CostsLit trail.now.steps weights.old cost) clause.now }
-    ensures { IsRaised trail.now.steps clause.now cost weights.old weights.new }
+    ensures raised { IsRaised trail.now.steps clause.now cost weights.old weights.new }
+    ensures paid { ArePaid trail.now.steps clause.now cost weights.old weights.new }
 {
     for lit in clause {
         pay(*lit, cost, weights, trail);
     }
 }
 
-/// Charges the clause: a model that follows the steps and meets it is heavier than before, by the result at least.
+/// Charges the clause: a model that follows the steps and meets it is heavier than before, by the result at least. Nothing is
+/// left to charge.
 fn charge(clause: &[SatLit], weights: &mut [i64], trail: &Trail) -> i64
     requires range { All (λ (l : Lit). l.var < trail.now.size) clause.now }
     requires sized { length weights.old ≡ trail.now.size }
@@ -95,13 +106,13 @@ fn charge(clause: &[SatLit], weights: &mut [i64], trail: &Trail) -> i64
     ensures small { magnitude weights.new ≤ magnitude weights.old }
     ensures least { pos 0 ≤ℤ result }
     ensures charged { (m : List Bool) → FollowsAll m trail.now.steps → Any (HoldsLit m) clause.now → (weight weights.old m +ℤ result) ≤ℤ weight weights.new m }
+    ensures each { (v : ℕ) → weight_of weights.old v ≤ℤ weight_of weights.new v }
+    ensures spent { IsSpent trail.now.steps weights.new clause.now }
+    ensures exact { IsCharge trail.now.steps weights.old weights.new result clause.now }
 {
     match cost(clause, weights, trail) {
         None => 0,
         Some(cost) => {
-            if cost <= 0 {
-                return 0;
-            }
             pay_all(clause, cost, weights, trail);
             cost
         }
@@ -118,6 +129,9 @@ fn charge_number(problem: &Weighted, number: usize, weights: &mut [i64], trail: 
     ensures small { magnitude weights.new ≤ magnitude weights.old }
     ensures least { pos 0 ≤ℤ result }
     ensures charged { (m : List Bool) → IsModel problem.now.hard m → FollowsAll m trail.now.steps → (weight weights.old m +ℤ result) ≤ℤ weight weights.new m }
+    ensures each { (v : ℕ) → weight_of weights.old v ≤ℤ weight_of weights.new v }
+    ensures spent { IfSome (slice_get problem.now.hard.clauses number) (IsSpent trail.now.steps weights.new) }
+    ensures exact { IsChargeAt trail.now.steps weights.old weights.new result (slice_get problem.now.hard.clauses number) }
 {
     match problem.hard.clauses.get(number) {
         None => 0,
@@ -128,7 +142,8 @@ fn charge_number(problem: &Weighted, number: usize, weights: &mut [i64], trail: 
 /// The sum; the first number where the sum is out of range.
 fn add_up(lost: i64, more: i64) -> i64
     requires { pos 0 ≤ℤ more }
-    ensures { result ≤ℤ (lost +ℤ more) }
+    ensures most { result ≤ℤ (lost +ℤ more) }
+    ensures is { IsSum lost more result }
 {
     match lost.checked_add(more) {
         Some(sum) => sum,
@@ -136,7 +151,7 @@ fn add_up(lost: i64, more: i64) -> i64
     }
 }
 
-/// The weights once the clauses of these numbers are charged, one after the other.
+/// The weights once the clauses of these numbers are charged, one after the other. Nothing is left to charge in them.
 pub fn charged(
     alloc: Global,
     problem: &Weighted,
@@ -145,7 +160,9 @@ pub fn charged(
 ) -> Result<Charges, AllocError>
     requires sound { IsSound problem.now }
     requires size { trail.now.size ≡ problem.now.hard.vars }
-    ensures { IfOk result (λ c. IsCharged problem.now trail.now.steps c.weights.items c.lost) }
+    ensures charged { IfOk result (λ c. IsCharged problem.now trail.now.steps c.weights.items c.lost) }
+    ensures exact { IfOk result (λ c. AreCharged problem.now.hard.clauses trail.now.steps numbers.now problem.now.weights (pos 0) c.weights.items c.lost) }
+    ensures spent { IfOk result (λ c. AreSpent problem.now.hard.clauses trail.now.steps c.weights.items numbers.now) }
 {
     let mut weights = Vec::from_slice(alloc, problem.weights.as_slice())?;
     let mut lost: i64 = 0;

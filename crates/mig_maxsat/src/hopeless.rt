@@ -1,9 +1,11 @@
 // Steps that no model follows which weighs more than the one found.
-ghost use Rattle.std.specs.Prelude.{◌≡◌, IfOk, IfSome, length};
-ghost use Rattle.std.specs.Bool.{OnTrue};
+ghost use Rattle.std.specs.Prelude.{◌≡◌, ◌⊎◌, IfOk, IfSome, MatchBool, length};
+ghost use Rattle.std.specs.List.{list_all};
 ghost use Rattle.mig_maxsat.specs.Heaviest.{IsSound};
 ghost use Rattle.mig_maxsat.specs.Rivals.{IsRival, IsFoundSized};
+ghost use Rattle.mig_maxsat.specs.Losses.{is_costly_lit, costly_numbers, HasRoom, OnFree};
 ghost use Rattle.mig_sat.specs.Found.{IsFound, IsUnfollowed};
+ghost use Rattle.mig_sat.specs.Agendas.{IsThrough, StopsAt};
 
 use crate::charging::charged;
 use crate::weighing::{most, weigh};
@@ -11,28 +13,39 @@ use crate::weighted::Weighted;
 use mig_sat::{Agenda, Found, Model, SatLit, Trail, look};
 use std::alloc::{AllocError, Global};
 
-/// Whether each literal of the clause is positive and of a negative weight.
-fn is_costly(clause: &[SatLit], weights: &[i64]) -> bool {
-    clause.iter().all(|lit| lit.positive
-        && weights
-            .get(lit.var as usize)
-            .is_some_and(|weight| *weight < 0))
+/// Whether the literal is positive, and its variable of negative weight.
+fn loses(lit: SatLit, weights: &[i64]) -> bool
+    ensures { result ≡ is_costly_lit weights.now lit }
+{
+    match weights.get(lit.var as usize) {
+        None => false,
+        Some(weight) => lit.positive && *weight < 0,
+    }
 }
 
-/// The numbers of the clauses that cost something where none of their literals is true yet.
-pub fn costly(alloc: Global, problem: &Weighted) -> Result<Vec<usize>, AllocError> {
+/// Whether each literal of the clause is so.
+fn is_costly(clause: &[SatLit], weights: &[i64]) -> bool
+    ensures { result ≡ list_all (is_costly_lit weights.now) clause.now }
+{
+    clause.iter().all(|lit| loses(*lit, weights))
+}
+
+/// The numbers of the clauses that cost something where none of their literals is true yet, in order.
+pub fn costly(alloc: Global, problem: &Weighted) -> Result<Vec<usize>, AllocError>
+    ensures { IfOk result (λ numbers. numbers.items ≡ costly_numbers problem.now) }
+{
+    let clauses = problem.hard.clauses.as_slice();
+    let weights = problem.weights.as_slice();
     let mut numbers = Vec::new(alloc);
-    for number in 0..problem.hard.clauses.len() {
-        if let Some(clause) = problem.hard.clauses.get(number) {
-            if is_costly(clause.as_slice(), problem.weights.as_slice()) {
-                numbers.push(number)?;
-            }
+    for number in 0..clauses.len() {
+        if is_costly(clauses[number].as_slice(), weights) {
+            numbers.push(number)?;
         }
     }
     Ok(numbers)
 }
 
-/// True only where no model follows the steps and weighs more than the one found.
+/// Whether the bound shows that no model follows the steps and weighs more than the one found.
 fn is_hopeless(
     alloc: Global,
     problem: &Weighted,
@@ -43,7 +56,7 @@ fn is_hopeless(
     requires sound { IsSound problem.now }
     requires size { trail.now.size ≡ problem.now.hard.vars }
     requires found { IsFoundSized problem.now found.now }
-    ensures { IfOk result (λ hopeless. OnTrue hopeless (IsUnfollowed (IsRival problem.now found.now) trail.now.steps)) }
+    ensures { IfOk result (λ hopeless. MatchBool hopeless (IsUnfollowed (IsRival problem.now found.now) trail.now.steps) (HasRoom problem.now found.now costly.now trail.now.steps)) }
 {
     match found {
         None => Ok(false),
@@ -56,7 +69,8 @@ fn is_hopeless(
     }
 }
 
-/// What `look` finds, and a conflict in place of a free variable where the steps are hopeless.
+/// What `look` finds, and a conflict in place of a free variable where the steps are hopeless. `costly` has the numbers
+/// of the clauses that cost something.
 pub fn look_ahead(
     alloc: Global,
     problem: &Weighted,
@@ -67,8 +81,12 @@ pub fn look_ahead(
 ) -> Result<Found, AllocError>
     requires sound { IsSound problem.now }
     requires size { trail.now.size ≡ problem.now.hard.vars }
+    requires numbers { costly.now ≡ costly_numbers problem.now }
     requires found { IsFoundSized problem.now found.now }
-    ensures { IfOk result (λ seen. IsFound problem.now.hard.clauses problem.now.hard.vars (IsRival problem.now found.now) trail.now.steps seen) }
+    ensures found { IfOk result (λ seen. IsFound problem.now.hard.clauses problem.now.hard.vars (IsRival problem.now found.now) trail.now.steps seen) }
+    ensures room { IfOk result (λ seen. OnFree seen (HasRoom problem.now found.now costly.now trail.now.steps)) }
+    ensures lists { agenda.new.lists.items ≡ agenda.old.lists.items }
+    ensures heeded { IfOk result (λ seen. IsThrough problem.now.hard.clauses agenda.old trail.now.steps ⊎ StopsAt problem.now.hard.clauses agenda.old agenda.new trail.now.steps seen) }
 {
     match look(&problem.hard, agenda, trail) {
         Found::Free(var) => {

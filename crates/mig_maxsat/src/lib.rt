@@ -5,6 +5,7 @@ mod charging;
 mod heaviest;
 mod hopeless;
 mod keeping;
+mod laws;
 #[cfg(test)]
 mod listed_tests;
 #[cfg(test)]
@@ -13,4 +14,5 @@ mod weighing;
 mod weighted;
 
 pub use heaviest::best;
+pub use laws::{one_heaviest, one_outcome_of_charges};
 pub use weighted::Weighted;

@@ -4,6 +4,7 @@ ghost use Rattle.std.specs.Int.RustNames.{unsigned_abs};
 ghost use Rattle.mig_sat.specs.Steps.{FollowsAll};
 ghost use Rattle.mig_maxsat.specs.Heaviest.{weight, magnitude};
 ghost use Rattle.mig_maxsat.specs.Bounds.{IsMost};
+ghost use Rattle.mig_maxsat.specs.Losses.{most_at, most_from};
 
 use mig_sat::Trail;
 
@@ -29,7 +30,8 @@ pub fn weigh(weights: &[i64], values: &[bool]) -> i64
 
 /// The most that a variable can weigh: nothing where it is false, and not less than nothing where it has no value.
 fn most_of(value: Option<bool>, weight: i64) -> i64
-    ensures { IsMost value weight result }
+    ensures bound { IsMost value weight result }
+    ensures is { result ≡ most_at value weight }
 {
     match value {
         Some(true) => weight,
@@ -38,13 +40,14 @@ fn most_of(value: Option<bool>, weight: i64) -> i64
     }
 }
 
-/// A weight that no assignment exceeds that follows the steps.
+/// A weight that no assignment exceeds that follows the steps: what is true counts, and what is free where it weighs more than nothing.
 pub fn most(weights: &[i64], vars: u32, trail: &Trail) -> i64
     requires sized { length weights.now ≡ vars }
     requires size { trail.now.size ≡ vars }
     requires fits { magnitude weights.now < 2 ^ 62 }
     ensures bound { (m : List Bool) → FollowsAll m trail.now.steps → weight weights.now m ≤ℤ result }
     ensures small { unsigned_abs result ≤ magnitude weights.now }
+    ensures is { result ≡ most_from trail.now.steps 0 weights.now }
 {
     let mut sum = 0;
     for var in 0..vars {

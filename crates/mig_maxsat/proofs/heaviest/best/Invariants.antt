@@ -1,5 +1,6 @@
 use Rattle.std.proofs.Common.{◌≡◌, ◌≤◌, length}
 use Rattle.mig_sat.specs.Steps.{IsRight}
+use Rattle.mig_sat.proofs.Heeding.{IsHeeded}
 use Rattle.mig_sat.proofs.Measure.{work}
 use Rattle.mig_maxsat.specs.Rivals.{IsRival, IsFoundRight}
 use Rattle.mig_maxsat.proofs.heaviest.best.Given as goal
@@ -10,6 +11,7 @@ invariant-loop-found l = record {
   room : length l.trail.steps ≤ l.problem.hard.vars;
   right : IsRight l.problem.hard.vars (IsRival l.problem l.found) l.trail.steps;
   kept : IsFoundRight l.problem l.found;
+  heeded : IsHeeded l.problem.hard l.agenda l.trail.steps;
 }
 
 abbrev pub decreases-loop-found : goal.decreases-loop-found
