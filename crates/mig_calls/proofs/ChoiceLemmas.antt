@@ -19,7 +19,7 @@ each-item P [] i x a h e = absurd (omega (arith, h))
 each-item P (y ∷ xs) zero x a h e = subst P (sym e) a.0
 each-item P (y ∷ xs) (suc i) x a h e = each-item P xs i x a.1 (omega (arith, h)) e
 
-of_kinds-at : (ks : List Kind) (vs : List Value) (n : ℕ) → of_kinds ks vs ≡ true → n < length ks → of_kind (get_or ks n kind.Int) (get_or vs n no_value) ≡ true
+pub of_kinds-at : (ks : List Kind) (vs : List Value) (n : ℕ) → of_kinds ks vs ≡ true → n < length ks → of_kind (get_or ks n kind.Int) (get_or vs n no_value) ≡ true
 of_kinds-at [] vs n h l = absurd (omega (arith, l))
 of_kinds-at (k ∷ ks) [] n h l = cc
 of_kinds-at (k ∷ ks) (v ∷ vs) zero h l = (and_parts (of_kind k v) (of_kinds ks vs) h).0

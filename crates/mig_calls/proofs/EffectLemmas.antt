@@ -67,7 +67,7 @@ pub changed-same : (t : ℕ) (f h : List Placed → List Placed) (s : State) →
 changed-same t f h s e = with_tables s.next _ _ (numbered-same _ _ (λ m rows. ap (λ x. cond (m == t) x rows) (e rows)) 0 s.tables)
 
 -- ---- rows taken out
-filter-agree : (a b : Placed → Bool) → ((p : Placed) → a p ≡ b p) → (rows : List Placed) → filter a rows ≡ filter b rows
+pub filter-agree : (a b : Placed → Bool) → ((p : Placed) → a p ≡ b p) → (rows : List Placed) → filter a rows ≡ filter b rows
 filter-agree a b h [] = refl
 filter-agree a b h (p ∷ rows) = ap₂ (λ v ps. cond v (p ∷ ps) ps) (h p) (filter-agree a b h rows)
 

@@ -3,4 +3,10 @@ pub mod JoinLemmas
 pub mod PinLemmas
 pub mod EffectLemmas
 pub mod ChoiceLemmas
+pub mod ValueOrder
+pub mod Lists
+pub mod OrderLemmas
+pub mod LeadLemmas
+pub mod GivenLemmas
+pub mod InsertedRows
 pub mod TypedLemmas

@@ -1,22 +1,17 @@
 -- A typed function fits the layout of its schema.
-use Rattle.std.proofs.Common.{◌≡◌, ◌≢◌, ℕ, zero, suc, ◌+◌, ◌<◌, ◌⊎◌, inl, inr, Bool, true, false, cond, not, ◌&&◌, List, [], ◌∷◌, ◌++◌, map, set, get_or, length, refl, sym, ap, ◌∙◌, subst, arith}
+use Rattle.std.proofs.Common.{◌≡◌, ℕ, zero, suc, ◌<◌, true, false, not, ◌&&◌, List, [], ◌∷◌, ◌++◌, map, get_or, length, refl, sym, ap, ◌∙◌, arith}
 use Rattle.std.specs.Prelude.{◌==◌, nat_lt}
-use Rattle.std.specs.List.{list_any, list_all, flat_map, AllByRecursion}
-use Rattle.std.proofs.lemmas.Bool.{and_parts, and_from, or_parts, not-false, eqb-true, eq-eqb, ltb-true, cases_eq, or_from}
-use Rattle.std.proofs.lemmas.List.{length-map, get_or-set_same, get_or-set_other, length-set}
-use Rattle.mig_schema.specs.Lists.{numbered}
+use Rattle.std.specs.List.{list_all, flat_map}
+use Rattle.std.proofs.lemmas.Bool.{and_parts, and_from, or_parts, not-false, eqb-true, eq-eqb, ltb-true, or_from}
+use Rattle.std.proofs.lemmas.List.{length-map}
 use Rattle.mig_schema.specs.declared.tables.ColId.{ColId}
 use Rattle.mig_schema.specs.declared.tables.Column.{Column}
-use Rattle.mig_schema.specs.declared.tables.Kind.{Kind}
 use Rattle.mig_schema.specs.declared.tables.Kind.TheVariants as kind
 use Rattle.mig_schema.specs.declared.tables.Table.{Table}
 use Rattle.mig_schema.specs.declared.tables.Schema.{Schema}
-use Rattle.mig_schema.specs.declared.programs.Param.{Param}
 use Rattle.mig_schema.specs.declared.programs.Join.{Join}
 use Rattle.mig_schema.specs.declared.programs.Joined.{Joined}
 use Rattle.mig_schema.specs.declared.programs.Assign.{Assign}
-use Rattle.mig_schema.specs.declared.programs.Scalar.{Scalar}
-use Rattle.mig_schema.specs.declared.programs.Scalar.TheVariants as scalar
 use Rattle.mig_schema.specs.declared.programs.Item.{Item}
 use Rattle.mig_schema.specs.declared.programs.Item.TheVariants as item
 use Rattle.mig_schema.specs.declared.programs.Cmp.{Cmp}
@@ -25,122 +20,28 @@ use Rattle.mig_schema.specs.declared.programs.Stmt.TheVariants.{Insert, Delete, 
 use Rattle.mig_schema.specs.declared.programs.Body.{Body}
 use Rattle.mig_schema.specs.declared.programs.Body.TheVariants as body
 use Rattle.mig_schema.specs.declared.programs.Function.{Function}
-use Rattle.mig_schema.specs.declared.values.Value.{Value}
-use Rattle.mig_schema.specs.declared.values.Value.TheVariants as value
 use Rattle.mig_schema.specs.Columns.{columns_of, has_column, has_table, kind_of, no_column, same_kind}
 use Rattle.mig_schema.specs.Joins.{tables_of, is_among, joins_on, all_join_on}
 use Rattle.mig_schema.specs.Typed.{Piece, piece_of, query_piece, pieces_of, scalars_of, used_columns, named_columns, named_tables, item_columns, item_scalars, item_kind, scalar_kind, names_no_param, stands_twice, IsTypedPiece, IsTypedFunction}
 use Rattle.mig_meaning.specs.declared.states.Placed.{Placed}
-use Rattle.mig_meaning.specs.declared.states.State.{State}
-use Rattle.mig_meaning.specs.Calls.{fit, IsGivenTo}
+use Rattle.mig_meaning.specs.Calls.{IsGivenTo}
 use Rattle.mig_meaning.specs.Conditions.{Given, scalar_value}
-use Rattle.mig_meaning.specs.Effect.{class_value, new_values, with_row, with_rows}
-use Rattle.mig_meaning.specs.Lists.{Each, In}
-use Rattle.mig_meaning.specs.Rows.{empty_state, rows_of}
+use Rattle.mig_meaning.specs.Effect.{new_values, with_rows}
+use Rattle.mig_meaning.specs.Lists.{Each}
+use Rattle.mig_meaning.specs.Rows.{empty_state}
 use Rattle.mig_meaning.specs.States.{IsState, label_fits, labels_fit, row_fits}
-use Rattle.mig_meaning.specs.Values.{no_value, of_kind}
+use Rattle.mig_meaning.specs.Values.{of_kind}
 use Rattle.mig_meaning.proofs.StateLaw.{each-in, empty-state}
 use Rattle.mig_meaning.proofs.TypedWrites.{state-law}
 use Rattle.mig_meaning.proofs.Within.{each-weaker}
 use Rattle.mig_stores.specs.Layout.{Layout, IsShort, layout_of, kinds_at, kind_at, of_kinds}
-use Rattle.mig_stores.proofs.Numbered.{changed-set}
 use Rattle.mig_stores.proofs.StateLemmas.{row_fits-kinds, kinds_at-schema}
 use Rattle.mig_calls.specs.Calling.{HasShortTexts, IsShortScalar}
 use Rattle.mig_calls.specs.Fits.{RowFits, IsColumn, AllJoinedFit, JoinFits, SidesFit, CasesFit, StmtFits, BodyFits}
 use Rattle.mig_calls.proofs.ChangeLemmas.{same-bool}
-
--- ---- lists
-each-none : {X : Type 0} (p : X → Bool) (xs : List X) → list_any p xs ≡ false → Each (λ x. p x ≡ false) xs
-each-none p [] h = tt
-each-none p (x ∷ xs) h = let k = or_parts (p x) (list_any p xs) h in (k.0, each-none p xs k.1)
-
-each-true : {X : Type 0} (p : X → Bool) (xs : List X) → list_all p xs ≡ true → Each (λ x. p x ≡ true) xs
-each-true p [] h = tt
-each-true p (x ∷ xs) h = let k = and_parts (p x) (list_all p xs) h in (k.0, each-true p xs k.1)
-
-all-true : {X : Type 0} (p : X → Bool) (xs : List X) → Each (λ x. p x ≡ true) xs → list_all p xs ≡ true
-all-true p [] a = refl
-all-true p (x ∷ xs) a = and_from (p x) (list_all p xs) a.0 (all-true p xs a.1)
-
-each-front : {X : Type 0} (P : X → Type 0) (xs ys : List X) → Each P (xs ++ ys) → Each P xs
-each-front P [] ys a = tt
-each-front P (x ∷ xs) ys a = (a.0, each-front P xs ys a.1)
-
-each-back : {X : Type 0} (P : X → Type 0) (xs ys : List X) → Each P (xs ++ ys) → Each P ys
-each-back P [] ys a = a
-each-back P (x ∷ xs) ys a = each-back P xs ys a.1
-
-each-unmapped : {X Y : Type 0} (P : Y → Type 0) (f : X → Y) (xs : List X) → Each P (map f xs) → Each (λ x. P (f x)) xs
-each-unmapped P f [] a = tt
-each-unmapped P f (x ∷ xs) a = (a.0, each-unmapped P f xs a.1)
-
-each-flat : {X Y : Type 0} (P : Y → Type 0) (f : X → List Y) (xs : List X) → Each P (flat_map f xs) → Each (λ x. Each P (f x)) xs
-each-flat P f [] a = tt
-each-flat P f (x ∷ xs) a = (each-front P (f x) (flat_map f xs) a, each-flat P f xs (each-back P (f x) (flat_map f xs) a))
-
-each-both : {X : Type 0} (P Q : X → Type 0) (xs : List X) → Each P xs → Each Q xs → Each (λ x. P x × Q x) xs
-each-both P Q [] a b = tt
-each-both P Q (x ∷ xs) a b = ((a.0, b.0), each-both P Q xs a.1 b.1)
-
-by-recursion : {X : Type 0} (P : X → Type 0) (xs : List X) → AllByRecursion P xs → Each P xs
-by-recursion P [] a = tt
-by-recursion P (x ∷ xs) a = (a.0, by-recursion P xs a.1)
-
--- ---- kinds
-same-kinds : (a b : Kind) → same_kind a b ≡ true → a ≡ b
-same-kinds kind.Int kind.Int h = refl
-same-kinds kind.Text kind.Text h = refl
-same-kinds kind.Key kind.Key h = refl
-same-kinds _ _ h = cc
-
-fit-at : (ps : List Param) (vs : List Value) (n : ℕ) (d : Param) → fit ps vs ≡ true → n < length ps → of_kind (get_or ps n d).kind (get_or vs n no_value) ≡ true
-fit-at [] vs n d h l = absurd (omega (arith, l))
-fit-at (p ∷ ps) [] n d h l = cc
-fit-at (p ∷ ps) (v ∷ vs) zero d h l = (and_parts (of_kind p.kind v) (fit ps vs) h).0
-fit-at (p ∷ ps) (v ∷ vs) (suc n) d h l = fit-at ps vs n d (and_parts (of_kind p.kind v) (fit ps vs) h).1 (omega (arith, l))
-
-key-at : (ks : List ℕ) (n : ℕ) → n < length ks → of_kind kind.Key (get_or (map value.Key ks) n no_value) ≡ true
-key-at [] n l = absurd (omega (arith, l))
-key-at (k ∷ ks) zero l = refl
-key-at (k ∷ ks) (suc n) l = key-at ks n (omega (arith, l))
-
-scalar-fits : (f : Function) (g : Given) → IsGivenTo f g → (x : Scalar) → names_no_param f x ≡ false → label_fits x ≡ true → of_kind (scalar_kind f x) (scalar_value g x) ≡ true
-scalar-fits f g gi (scalar.Param p) named fits = fit-at f.params g.args p (record { name = []; kind = kind.Int }) gi.args (ltb-true p (length f.params) (not-false (nat_lt p (length f.params)) named))
-scalar-fits f g gi (scalar.Int i) named fits = refl
-scalar-fits f g gi (scalar.Text t) named fits = refl
-scalar-fits f g gi (scalar.Fresh n) named fits = let l : n < 16 = ltb-true n 16 fits in key-at g.keys n (omega (arith, l, gi.sixteen))
-
--- ---- short texts
-short-at : (vs : List Value) (n : ℕ) → Each IsShort vs → IsShort (get_or vs n no_value)
-short-at [] n a = tt
-short-at (v ∷ vs) zero a = a.0
-short-at (v ∷ vs) (suc n) a = short-at vs n a.1
-
-short-key : (ks : List ℕ) (n : ℕ) → IsShort (get_or (map value.Key ks) n no_value)
-short-key [] n = tt
-short-key (k ∷ ks) zero = tt
-short-key (k ∷ ks) (suc n) = short-key ks n
-
-short-scalar : (g : Given) → Each IsShort g.args → (x : Scalar) → IsShortScalar x → IsShort (scalar_value g x)
-short-scalar g a (scalar.Param p) h = short-at g.args p a
-short-scalar g a (scalar.Int i) h = tt
-short-scalar g a (scalar.Text t) h = h
-short-scalar g a (scalar.Fresh n) h = short-key g.keys n
-
-short-class : (g : Given) (ms : List Joined) (vs : List Assign) (c : ColId) → Each IsShort g.args → Each (λ (x : Assign). IsShortScalar x.value) vs → IsShort (class_value g ms vs c)
-short-class g ms [] c a h = tt
-short-class g ms (x ∷ vs) c a h = go (Rattle.mig_schema.specs.Columns.same_col (Rattle.mig_schema.specs.Joins.leader ms x.column) (Rattle.mig_schema.specs.Joins.leader ms c)) (short-class g ms vs c a h.1)
-  where
-    go : (b : Bool) → IsShort (class_value g ms vs c) → IsShort (cond b (scalar_value g x.value) (class_value g ms vs c))
-    go true ih = short-scalar g a x.value h.0
-    go false ih = ih
-
-short-values : (schema : Schema) (g : Given) (ms : List Joined) (vs : List Assign) (t : ℕ) → Each IsShort g.args → Each (λ (x : Assign). IsShortScalar x.value) vs → Each IsShort (new_values schema g ms vs t)
-short-values schema g ms vs t a h = go 0 (columns_of schema t)
-  where
-    go : (n : ℕ) (cs : List Column) → Each IsShort (numbered (λ m (c : Column). class_value g ms vs (record { table = t; column = m })) n cs)
-    go n [] = tt
-    go n (c ∷ cs) = (short-class g ms vs (record { table = t; column = n }) a h, go (n + 1) cs)
+use Rattle.mig_calls.proofs.Lists.{by-recursion, each-back, each-both, each-flat, each-front, each-none, each-true, each-unmapped}
+use Rattle.mig_calls.proofs.GivenLemmas.{same-kinds, scalar-fits, short-scalar, short-values}
+use Rattle.mig_calls.proofs.InsertedRows.{each-by-in, row-in}
 
 -- ---- columns and tables of the layout
 layout-length : (schema : Schema) (layout : Layout) → layout_of schema ≡ layout → length layout ≡ length schema.tables
@@ -166,56 +67,6 @@ column-is schema layout c same h =
     let n = ltb-true c.column (length (columns_of schema c.table)) k.1 in
     let e : length (kinds_at layout c.table) ≡ length (columns_of schema c.table) = ap length (kinds-are schema layout c.table same) ∙ length-map (columns_of schema c.table) (λ (x : Column). x.kind) in
     record { table = table-within schema layout c.table same k.0; within = omega (arith, n, e) }
-
--- ---- rows that an insert adds
-abbrev new_row : State → List Value → Placed
-new_row s vs = record { id = s.next; row = record { values = vs } }
-
-in-left : (p : Placed) (xs ys : List Placed) → In p xs → In p (xs ++ ys)
-in-left p [] ys h = absurd h
-in-left p (x ∷ xs) ys (inl e) = inl e
-in-left p (x ∷ xs) ys (inr h) = inr (in-left p xs ys h)
-
-in-last : (p : Placed) (xs : List Placed) → In p (xs ++ p ∷ [])
-in-last p [] = inl refl
-in-last p (x ∷ xs) = inr (in-last p xs)
-
-row-tables : (s : State) (t : ℕ) (vs : List Value) → (with_row s t vs).tables ≡ set s.tables t (rows_of s t ++ new_row s vs ∷ [])
-row-tables s t vs = changed-set (λ rows. rows ++ new_row s vs ∷ []) t s.tables (rows_of s t ++ new_row s vs ∷ []) [] refl
-
-row-count : (s : State) (t : ℕ) (vs : List Value) → length (with_row s t vs).tables ≡ length s.tables
-row-count s t vs = ap length (row-tables s t vs) ∙ length-set s.tables t (rows_of s t ++ new_row s vs ∷ [])
-
-row-here : (s : State) (t : ℕ) (vs : List Value) → t < length s.tables → In (new_row s vs) (rows_of (with_row s t vs) t)
-row-here s t vs h = subst (In (new_row s vs)) (sym (ap (λ (ts : List (List Placed)). get_or ts t []) (row-tables s t vs) ∙ get_or-set_same s.tables t (rows_of s t ++ new_row s vs ∷ []) [] h)) (in-last (new_row s vs) (rows_of s t))
-
-row-stays : (s : State) (t : ℕ) (vs : List Value) (u : ℕ) (p : Placed) → t < length s.tables → In p (rows_of s u) → In p (rows_of (with_row s t vs) u)
-row-stays s t vs u p h k = subst (In p) (sym (ap (λ (ts : List (List Placed)). get_or ts u []) (row-tables s t vs))) (go (cases_eq u t))
-  where
-    go : (u ≡ t) ⊎ (u ≢ t) → In p (get_or (set s.tables t (rows_of s t ++ new_row s vs ∷ [])) u [])
-    go (inl e) = subst (λ m. In p (get_or (set s.tables t (rows_of s t ++ new_row s vs ∷ [])) m [])) (sym e) (subst (In p) (sym (get_or-set_same s.tables t (rows_of s t ++ new_row s vs ∷ []) [] h)) (in-left p (rows_of s t) (new_row s vs ∷ []) (subst (λ m. In p (rows_of s m)) e k)))
-    go (inr n) = subst (In p) (sym (get_or-set_other s.tables t u (rows_of s t ++ new_row s vs ∷ []) [] n)) k
-
-rows-stay : (schema : Schema) (g : Given) (ms : List Joined) (vs : List Assign) (ts : List ℕ) (s : State) (u : ℕ) (p : Placed) → Each (λ t. t < length s.tables) ts → In p (rows_of s u) → In p (rows_of (with_rows schema g ms vs ts s) u)
-rows-stay schema g ms vs [] s u p a k = k
-rows-stay schema g ms vs (t ∷ ts) s u p a k =
-    let new = new_values schema g ms vs t in
-    rows-stay schema g ms vs ts (with_row s t new) u p (each-weaker _ _ (λ n h. omega (arith, h, row-count s t new)) ts a.1) (row-stays s t new u p a.0 k)
-
-row-in : (schema : Schema) (g : Given) (ms : List Joined) (vs : List Assign) (ts : List ℕ) (s : State) (t : ℕ) → Each (λ u. u < length s.tables) ts → In t ts → (p : Placed) × In p (rows_of (with_rows schema g ms vs ts s) t) × (p.row.values ≡ new_values schema g ms vs t)
-row-in schema g ms vs [] s t a h = absurd h
-row-in schema g ms vs (u ∷ ts) s t a (inl e) =
-    let new = new_values schema g ms vs u in
-    let within : u < length s.tables = a.0 in
-    let here : In (new_row s new) (rows_of (with_row s u new) t) = subst (λ m. In (new_row s new) (rows_of (with_row s u new) m)) (sym e) (row-here s u new within) in
-    (new_row s new, rows-stay schema g ms vs ts (with_row s u new) t (new_row s new) (each-weaker _ _ (λ n h. omega (arith, h, row-count s u new)) ts a.1) here, ap (new_values schema g ms vs) (sym e))
-row-in schema g ms vs (u ∷ ts) s t a (inr h) =
-    let new = new_values schema g ms vs u in
-    row-in schema g ms vs ts (with_row s u new) t (each-weaker _ _ (λ n k. omega (arith, k, row-count s u new)) ts a.1) h
-
-each-by-in : (P : ℕ → Type 0) (ts us : List ℕ) → ((t : ℕ) → In t us → In t ts) → ((t : ℕ) → In t ts → P t) → Each P us
-each-by-in P ts [] sub h = tt
-each-by-in P ts (u ∷ us) sub h = (h u (sub u (inl refl)), each-by-in P ts us (λ t k. sub t (inr k)) h)
 
 -- ---- a piece
 module _ (schema : Schema) (layout : Layout) (f : Function) (g : Given) (same : layout_of schema ≡ layout) (gi : IsGivenTo f g) where

@@ -1,6 +1,10 @@
 //! Calls of functions over any store.
 #![tactic(auto)]
 
+mod asked;
+#[cfg(test)]
+mod asked_tests;
+mod back;
 mod calls;
 mod changing;
 mod conditions;
@@ -8,6 +12,7 @@ mod given;
 mod inserting;
 mod joining;
 mod meeting;
+mod order;
 mod pins;
 mod queries;
 mod statements;
@@ -15,3 +20,4 @@ mod statements;
 mod tests;
 
 pub use calls::call;
+pub use order::value_order;

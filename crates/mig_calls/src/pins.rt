@@ -1,5 +1,6 @@
 // The rows of a join's first table that a condition may be true of.
-ghost use Rattle.std.specs.Prelude.{◌≡◌, ℕ, ◌<◌, true, false, Option, Some, IfOk, IfSome};
+ghost use Rattle.std.specs.Prelude.{◌≡◌, ◌≢◌, ℕ, ◌<◌, true, false, Option, Some, IfOk, IfSome, IfNone};
+ghost use Rattle.mig_schema.specs.declared.values.Value.{Value as PlainValue};
 ghost use Rattle.mig_schema.specs.Joins as joins;
 ghost use Rattle.mig_meaning.specs.declared.states.Placed.{Placed as PlacedRow};
 ghost use Rattle.mig_meaning.specs.declared.states.State.{State};
@@ -12,7 +13,9 @@ ghost use Rattle.mig_calls.specs.Joining.{IsCover};
 ghost use Rattle.mig_calls.specs.Pins.{CasePins, CasesPin, IsPin};
 ghost use Rattle.mig_calls.specs.Told.{given_told};
 
+use crate::back::first_from;
 use crate::given::{Given, scalar_value};
+use crate::joining::tables_of;
 use mig_meaning::Placed;
 use mig_schema::{Cmp, ColId, Cond, Item, Join, Op, Scalar, Seq, Value};
 use mig_stores::{Store, StoreFault};
@@ -21,7 +24,7 @@ use std::alloc::{AllocError, Global};
 /// A column and the value that is asked of it.
 #[derive(Debug, Drop)]
 struct Pin {
-    column: u32,
+    column: ColId,
     value: Value,
 }
 
@@ -34,15 +37,13 @@ fn pinned(
     scalar: &Scalar,
 ) -> Result<Option<Pin>, AllocError>
     ensures table { IfOk result (λ o. IfSome o (λ p. column.table ≡ t)) }
-    ensures column { IfOk result (λ o. IfSome o (λ p. column.column ≡ p.column)) }
+    ensures column { IfOk result (λ o. IfSome o (λ p. p.column ≡ column)) }
     ensures value { IfOk result (λ o. IfSome o (λ p. p.value ≡ conditions.scalar_value (given_told given.now) scalar.now)) }
+    ensures none { IfOk result (λ o. IfNone o (column.table ≢ t)) }
 {
     if column.table == t {
         let value = scalar_value(alloc, given, scalar)?;
-        Ok(Some(Pin {
-            column: column.column,
-            value,
-        }))
+        Ok(Some(Pin { column, value }))
     } else {
         Ok(None)
     }
@@ -50,7 +51,9 @@ fn pinned(
 
 /// The column of table t that the comparison asks to be equal to a value, if it does.
 fn cmp_pin(alloc: Global, given: &Given<'_>, t: u32, cmp: &Cmp) -> Result<Option<Pin>, AllocError>
-    ensures { IfOk result (λ o. IfSome o (λ p. IsPin (given_told given.now) t p.column p.value cmp.now)) }
+    ensures pin { IfOk result (λ o. IfSome o (λ p. IsPin (given_told given.now) t p.column.column p.value cmp.now)) }
+    ensures table { IfOk result (λ o. IfSome o (λ p. p.column.table ≡ t)) }
+    ensures none { IfOk result (λ o. IfNone o ((n : ℕ) (v : PlainValue) → IsPin (given_told given.now) t n v cmp.now → ⊥)) }
 {
     if cmp.op != Op::Eq {
         return Ok(None);
@@ -63,14 +66,16 @@ fn cmp_pin(alloc: Global, given: &Given<'_>, t: u32, cmp: &Cmp) -> Result<Option
     }
 }
 
-/// The first column of table t that the case asks to be equal to a value.
+/// A column of table t that the case asks to be equal to a value, if there is one: the first comparison's that asks it.
 fn case_pin(
     alloc: Global,
     given: &Given<'_>,
     t: u32,
     case: &[Cmp],
 ) -> Result<Option<Pin>, AllocError>
-    ensures { IfOk result (λ o. IfSome o (λ p. CasePins (given_told given.now) t p.column p.value case.now)) }
+    ensures pin { IfOk result (λ o. IfSome o (λ p. CasePins (given_told given.now) t p.column.column p.value case.now)) }
+    ensures table { IfOk result (λ o. IfSome o (λ p. p.column.table ≡ t)) }
+    ensures none { IfOk result (λ o. IfNone o ((n : ℕ) (v : PlainValue) → CasePins (given_told given.now) t n v case.now → ⊥)) }
 {
     match case {
         [] => Ok(None),
@@ -81,14 +86,16 @@ fn case_pin(
     }
 }
 
-/// The first column of table t that the condition asks to be equal to a value, where it has one case.
+/// A column of table t that the condition asks to be equal to a value, if it has one case and that has one.
 fn cases_pin(
     alloc: Global,
     given: &Given<'_>,
     t: u32,
     cases: &[Seq<Cmp>],
 ) -> Result<Option<Pin>, AllocError>
-    ensures { IfOk result (λ o. IfSome o (λ p. CasesPin (given_told given.now) t p.column p.value cases.now)) }
+    ensures pin { IfOk result (λ o. IfSome o (λ p. CasesPin (given_told given.now) t p.column.column p.value cases.now)) }
+    ensures table { IfOk result (λ o. IfSome o (λ p. p.column.table ≡ t)) }
+    ensures none { IfOk result (λ o. IfNone o ((n : ℕ) (v : PlainValue) → CasesPin (given_told given.now) t n v cases.now → ⊥)) }
 {
     match cases {
         [case] => case_pin(alloc, given, t, case.as_slice()),
@@ -96,8 +103,30 @@ fn cases_pin(
     }
 }
 
-/// The rows of the first table that may begin a join row which meets the condition: those that have the value which
-/// the condition asks of a column, or all rows where it asks none.
+/// A column of one of these tables that the condition asks to be equal to a value, if there is one: the first such table's.
+fn first_pin(
+    alloc: Global,
+    given: &Given<'_>,
+    tables: &[u32],
+    cases: &[Seq<Cmp>],
+) -> Result<Option<Pin>, AllocError>
+    ensures pin { IfOk result (λ o. IfSome o (λ p. CasesPin (given_told given.now) p.column.table p.column.column p.value cases.now)) }
+    ensures table { IfOk result (λ o. IfSome o (λ p. joins.is_among p.column.table tables.now ≡ true)) }
+    ensures none { IfOk result (λ o. IfNone o (Each (λ t. (n : ℕ) (v : PlainValue) → CasesPin (given_told given.now) t n v cases.now → ⊥) tables.now)) }
+{
+    match tables {
+        [] => Ok(None),
+        [t, more @ ..] => match cases_pin(alloc, given, *t, cases)? {
+            Some(found) => Ok(Some(found)),
+            None => first_pin(alloc, given, more, cases),
+        },
+    }
+}
+
+/// The rows of the first table that may begin a join row which meets the condition.
+///
+/// Where the condition asks a column to be equal to a value, its table's rows with that value are found, and from them
+/// the rows of the first table that the equalities lead back to. All rows are taken where it asks none.
 pub(crate) fn first_rows<S: Store>(
     alloc: Global,
     store: &mut S,
@@ -113,8 +142,13 @@ pub(crate) fn first_rows<S: Store>(
     ensures kinds { IfOk result (λ rows. Each (λ (p : PlacedRow). of_kinds (kinds_at (S.meaning store.old).layout join.now.first) p.row.values ≡ true) rows) }
     ensures cover { IfOk result (λ rows. (s : State) → (S.meaning store.old).told ≡ Some s → IsCover (given_told given.now) s join.now cond.now.cases rows) }
 {
-    match cases_pin(alloc, given, join.first, cond.cases.as_slice())? {
-        Some(pin) => store.matching(alloc, join.first, pin.column, &pin.value),
+    let tables = tables_of(alloc, join)?;
+    match first_pin(alloc, given, tables.as_slice(), cond.cases.as_slice())? {
+        Some(pin) => {
+            let at = pin.column;
+            let rows = store.matching(alloc, at.table, at.column, &pin.value)?;
+            first_from(alloc, store, join, at.table, rows)
+        }
         None => store.rows(alloc, join.first),
     }
 }
