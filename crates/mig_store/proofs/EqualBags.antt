@@ -1,49 +1,24 @@
 -- Equal bags have one list in order, and one text.
-use Rattle.std.proofs.Common.{◌≡◌, ◌∙◌, ℕ, Bool, true, false, cond, List, [], ◌∷◌, ◌++◌, length, map, decimal, refl, sym, ap, arith}
-use Rattle.std.specs.Cmp.{IsTotalOrder}
+use Rattle.std.proofs.Common.{◌≡◌, ◌∙◌, ℕ, List, [], ◌∷◌, ◌++◌, length, map, decimal, refl, sym, ap, arith}
 use Rattle.std.specs.List.{flat_map}
-use Rattle.std.specs.Ordering.{is_gt, ordering_reverse}
-use Rattle.std.specs.declared.cmp.Ordering.{Ordering}
-use Rattle.std.specs.declared.cmp.Ordering.TheVariants.{Less, Equal, Greater}
-use Rattle.std.proofs.lemmas.Cmp.{upto}
 use Rattle.mig_schema.specs.declared.programs.Program.{Program}
 use Rattle.mig_schema.specs.declared.values.Value.{Value}
 use Rattle.mig_meaning.specs.Bags.{SameBag}
 use Rattle.mig_meaning.specs.Lists.{total}
 use Rattle.mig_meaning.specs.Run.{function_at}
 use Rattle.mig_meaning.proofs.Bags.{same-total}
-use Rattle.mig_meaning.proofs.Within.{each-weaker}
-use Rattle.mig_algebra.specs.Sorted.{put_in, sorted}
-use Rattle.mig_algebra.proofs.InOrder.{each-put_in}
-use Rattle.mig_algebra.proofs.SortedLaws.{Up, one_up, sorted-total}
+use Rattle.mig_algebra.specs.Sorted.{sorted}
+use Rattle.mig_algebra.proofs.SortedLaws.{one_up, sorted-total, sorted-up}
 use Rattle.mig_runs.specs.Runs.{Told}
 use Rattle.mig_store.specs.Law.{SameAnswers}
 use Rattle.mig_store.specs.Order.{row_order}
 use Rattle.mig_store.specs.Writing.{answer_text, answers_text, record_text, row_record}
 use Rattle.mig_store.proofs.Ordered.{row_total, row_tie}
 
-greater-back : (o : Ordering) → is_gt o ≡ true → is_gt (ordering_reverse o) ≡ false
-greater-back Less h = cc h
-greater-back Equal h = cc h
-greater-back Greater h = refl
-
-module _ {A : Type 0} (R : A → A → Ordering) (o : IsTotalOrder R) where
-  put-up : (x : A) (ys : List A) → Up R ys → Up R (put_in R x ys)
-  put-up x [] h = (tt, tt)
-  put-up x (y ∷ ys) h = go (is_gt (R x y)) refl (put-up x ys h.1)
-    where
-      go : (b : Bool) → is_gt (R x y) ≡ b → Up R (put_in R x ys) → Up R (cond b (y ∷ put_in R x ys) (x ∷ (y ∷ ys)))
-      go true e ih = (each-put_in R (λ z. is_gt (R y z) ≡ false) x ys (ap is_gt (o.antisymm y x) ∙ greater-back (R x y) e) h.0, ih)
-      go false e ih = ((e, each-weaker (λ z. is_gt (R y z) ≡ false) (λ z. is_gt (R x z) ≡ false) (λ z k. upto o x y z e k) ys h.0), h)
-
-  in_order : (xs : List A) → Up R (sorted R xs)
-  in_order [] = tt
-  in_order (x ∷ xs) = put-up x (sorted R xs) (in_order xs)
-
 -- equal bags have one list in order
 same-order : (a b : List (List Value)) → SameBag a b → sorted row_order a ≡ sorted row_order b
 same-order a b h =
-    one_up row_order row_total row_tie (sorted row_order a) (sorted row_order b) (in_order row_order row_total a) (in_order row_order row_total b)
+    one_up row_order row_total row_tie (sorted row_order a) (sorted row_order b) (sorted-up row_order row_total a) (sorted-up row_order row_total b)
     (λ f. sorted-total row_order f a ∙ same-total f a b h ∙ sym (sorted-total row_order f b))
 
 ones : {A : Type 0} (xs : List A) → total (λ x. 1) xs ≡ length xs

@@ -1,6 +1,6 @@
 use Rattle.std.proofs.Common.{◌∙◌, sym}
 use Rattle.mig_algebra.proofs.ListOrder.{order_left}
-use Rattle.mig_store.specs.Order.{value_order}
+use Rattle.mig_calls.specs.Order.{value_order}
 use Rattle.mig_store.proofs.order.row_order.Goals as goal
 
 pub returns : goal.returns
