@@ -1,9 +1,10 @@
-//! The program `desk`: the desk over the system's files and streams.
+//! The program `desk`: the desk over the system's files and streams, and a store in memory.
 #![tactic(auto)]
 
 use mig_cli::desk;
 use mig_io::{RealFiles, RealSink, emit};
 use mig_schema::{Seq, Word};
+use mig_stores::VecStore;
 use std::alloc::Global;
 use std::process::ExitCode;
 use std::rt::Runtime;
@@ -34,7 +35,15 @@ fn main(rt: HostRuntime) -> io::Result<ExitCode> {
     let status = match words_of(&rt) {
         Ok(words) => {
             let mut files = RealFiles::new(rt.clone()?);
-            desk(rt.alloc(), words.as_slice(), &mut files, &mut out, &mut err)
+            let mut store = VecStore::new(rt.alloc());
+            desk(
+                rt.alloc(),
+                words.as_slice(),
+                &mut files,
+                &mut out,
+                &mut err,
+                &mut store,
+            )
         }
         Err(error) => {
             let (status, line) = refusal_of(&error);

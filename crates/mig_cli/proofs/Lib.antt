@@ -1,3 +1,4 @@
+pub mod Commands
 pub mod Ended
 pub mod Hinted
 pub mod Lists
@@ -17,4 +18,6 @@ pub mod RenamedTyped
 pub mod RenamedValid
 pub mod SameFunctions
 pub mod Spelled
+pub mod Statuses
+pub mod Worded
 pub mod WrittenValues

@@ -1,79 +1,38 @@
--- What the desk answers for its words and the files that it is told of.
-use Rattle.std.specs.Prelude.{◌≡◌, ℕ, ◌<◌, ◌≤◌, List, [], ◌∷◌, ◌++◌, length, Option, Some, None, ◌⊎◌}
-use Rattle.mig_schema.specs.declared.faults.TypeFault.{TypeFault}
-use Rattle.mig_schema.specs.declared.jobs.Job.{Job}
-use Rattle.mig_schema.specs.Plain.{IsPlain}
-use Rattle.mig_tokens.specs.declared.fault.Limit.{Limit}
-use Rattle.mig_tokens.specs.declared.fault.Limit.TheVariants.{Pairs}
-use Rattle.mig_tokens.specs.Refused.{StandsWrong, StandsPast}
-use Rattle.mig_grammar.specs.Spelling.{job_tokens}
-use Rattle.mig_grammar.specs.Shapes.{IsJobTree}
-use Rattle.mig_syntax.specs.declared.fault.TextFault.{TextFault}
-use Rattle.mig_syntax.specs.declared.fault.TextFault.TheVariants as fault
-use Rattle.mig_syntax.specs.Job.{IsTypedJobText, IsMistypedJobText, HasManyPairs}
+-- What the desk answers for its words, its files and its store, and what it leaves.
+use Rattle.std.specs.Prelude.{◌≡◌, ◌≢◌, ℕ, false, List, [], ◌∷◌, ◌++◌, Option, Some, ◌⊎◌}
 use Rattle.mig_words.specs.declared.command.Command.{Command}
-use Rattle.mig_words.specs.declared.command.Command.TheVariants.{Migrate, Check, Run, Trial}
 use Rattle.mig_words.specs.declared.command.WordFault.{WordFault}
 use Rattle.mig_words.specs.Commands.{IsCommand}
 use Rattle.mig_words.specs.Faults.{IsFault}
-use Rattle.mig_certificate.specs.AnswerText.{answer_text}
 use Rattle.mig_io.specs.Counts.{Rose}
 use Rattle.mig_io.specs.Taken.{and_then, TookFront}
-use Rattle.mig_cli.specs.Lines.{refused_words, unbuilt_words, cannot_read, too_long, not_built, found, no_memory, fault_status, fault_line}
-use Rattle.mig_cli.specs.Renaming.{renamed, renaming_certificate}
-
--- ---- words
-
--- the file that a command migrates; the work of the other commands is not there yet
-abbrev pub job_of : Command → Option (List ℕ)
-job_of (Migrate job options) = Some job
-job_of (Check job answer) = None
-job_of (Run job calls answer) = None
-job_of (Trial number) = None
-
--- The words ask to migrate the job in this file. Their options change nothing as long as only plain jobs are migrated.
-abbrev pub NamesJob : List (List ℕ) → List ℕ → Type 0
-NamesJob words file = (command : Command) × IsCommand words command × (job_of command ≡ Some file)
-
--- ---- jobs
-
--- the greatest length of a job
-abbrev pub cap : ℕ
-cap = 262144
-
--- the first fault of bytes that spell no typed job within the limits: the first wrong token or passed limit, then the first broken typing rule, then too many pairs of columns
-pub data IsTextFault (bytes : List ℕ) (e : TextFault) : Type 0 where
-  wrong : (row column : ℕ) → StandsWrong job_tokens IsJobTree bytes row column → e ≡ fault.At row column → IsTextFault bytes e
-  past : (which : Limit) (row : ℕ) → StandsPast job_tokens IsJobTree which bytes row → e ≡ fault.Limit which row → IsTextFault bytes e
-  mistyped : (f : TypeFault) → IsMistypedJobText bytes f → e ≡ fault.Typing f → IsTextFault bytes e
-  many : HasManyPairs bytes → e ≡ fault.Limit Pairs 0 → IsTextFault bytes e
-
--- the answer to a job: the renamed program with its certificate
-abbrev pub answer : Job → List ℕ
-answer job = answer_text job (renamed job) (renaming_certificate job)
+use Rattle.mig_stores.specs.Meaning.{Meaning}
+use Rattle.mig_cli.specs.Asked.{files_of, AsksToMigrate, AsksToRun, NamesFile}
+use Rattle.mig_cli.specs.Jobs.{Holdings, GaveJobs}
+use Rattle.mig_cli.specs.Migrating.{IsMigrated}
+use Rattle.mig_cli.specs.Running.{IsRun, RunFailed}
+use Rattle.mig_cli.specs.Lines.{refused_words, unbuilt_words, cannot_read, no_memory}
+use Rattle.mig_cli.specs.CallLines.{store_failed}
 
 -- ---- outcomes
 
--- the status, the text for `out` and the text for `err` that the bytes of a job lead to: a fault, a job that is not plain, or an answer
-pub data IsRead (file bytes : List ℕ) (status : ℕ) (text report : List ℕ) : Type 0 where
-  faulty : (e : TextFault) → IsTextFault bytes e → status ≡ fault_status e → text ≡ [] → report ≡ fault_line file e → IsRead file bytes status text report
-  not_plain : (job : Job) → IsTypedJobText bytes job → (IsPlain job → ⊥) → status ≡ 2 → text ≡ [] → report ≡ not_built file → IsRead file bytes status text report
-  done : (job : Job) → IsTypedJobText bytes job → IsPlain job → status ≡ 0 → text ≡ answer job → report ≡ found → IsRead file bytes status text report
+-- The outcome of the words, where neither files nor the store nor memory fail: the names asked for, what is left in the store, the status, the text for `out` and the text for `err`.
+-- Where the files tell what they hold and the store its state, these are the defined ones.
+pub data IsOutcome (told : Holdings) (words names : List (List ℕ)) (old new : Meaning) (status : ℕ) (text report : List ℕ) : Type 0 where
+  refused : (e : WordFault) → IsFault words e → names ≡ [] → new ≡ old → status ≡ 1 → text ≡ [] → report ≡ refused_words e → IsOutcome told words names old new status text report
+  unbuilt : (command : Command) → IsCommand words command → files_of command ≡ [] → names ≡ [] → new ≡ old → status ≡ 1 → text ≡ [] → report ≡ unbuilt_words → IsOutcome told words names old new status text report
+  migrated : (file : List ℕ) → AsksToMigrate words file → names ≡ file ∷ [] → new ≡ old → IsMigrated told file status text report → IsOutcome told words names old new status text report
+  run : (file calls : List ℕ) → AsksToRun words file calls → IsRun told file calls names old new status text report → IsOutcome told words names old new status text report
 
--- the same of a file that holds these bytes
-pub data IsFetched (file bytes : List ℕ) (status : ℕ) (text report : List ℕ) : Type 0 where
-  long : cap < length bytes → status ≡ 10 → text ≡ [] → report ≡ too_long file → IsFetched file bytes status text report
-  read : length bytes ≤ cap → IsRead file bytes status text report → IsFetched file bytes status text report
+-- what is to be put: the outcome, or the line on a file that could not be read behind those that gave a job, or the one on a store that failed
+pub data IsDue (told : Holdings) (words names : List (List ℕ)) (files files' : ℕ) (old new : Meaning) (status : ℕ) (text report : List ℕ) : Type 0 where
+  outcome : IsOutcome told words names old new status text report → IsDue told words names files files' old new status text report
+  unread : (before : List (List ℕ)) (file : List ℕ) → names ≡ before ++ file ∷ [] → GaveJobs told before → NamesFile words file → Rose files files' → new ≡ old → status ≡ 6 → text ≡ [] → report ≡ cannot_read file → IsDue told words names files files' old new status text report
+  failed : (file calls : List ℕ) → AsksToRun words file calls → names ≡ file ∷ calls ∷ [] → RunFailed told file calls old new → status ≡ 9 → text ≡ [] → report ≡ store_failed → IsDue told words names files files' old new status text report
 
--- the outcome of the words, where neither the files nor memory fail
-pub data IsOutcome (told : List ℕ → Option (List ℕ)) (words : List (List ℕ)) (status : ℕ) (text report : List ℕ) : Type 0 where
-  refused : (e : WordFault) → IsFault words e → status ≡ 1 → text ≡ [] → report ≡ refused_words e → IsOutcome told words status text report
-  unbuilt : (command : Command) → IsCommand words command → job_of command ≡ None → status ≡ 1 → text ≡ [] → report ≡ unbuilt_words → IsOutcome told words status text report
-  taken : (file bytes : List ℕ) → NamesJob words file → told file ≡ Some bytes → IsFetched file bytes status text report → IsOutcome told words status text report
-
--- The files tell what the named file holds.
-abbrev pub Tells : (List ℕ → Option (List ℕ)) → List (List ℕ) → Type 0
-Tells told words = (file : List ℕ) → NamesJob words file → (bytes : List ℕ) × (told file ≡ Some bytes)
+-- The files tell what the named ones hold.
+abbrev pub Tells : Holdings → List (List ℕ) → Type 0
+Tells told words = (file : List ℕ) → NamesFile words file → (bytes : List ℕ) × (told file ≡ Some bytes)
 
 -- ---- what was put
 
@@ -87,43 +46,47 @@ pub record Cut (out out' err err' : Option (List ℕ)) (text report : List ℕ) 
   pub answered : TookFront out out' text
   pub reported : (err' ≡ err) ⊎ ((out' ≡ and_then out text) × TookFront err err' report)
 
--- the outcome was put whole
-abbrev pub Put : (List ℕ → Option (List ℕ)) → List (List ℕ) → ℕ → (out out' err err' : Option (List ℕ)) → Type 0
-Put told words status out out' err err' = (text : List ℕ) × (report : List ℕ) × IsOutcome told words status text report × Whole out out' err err' text report
+-- the outcome was put whole, and its names were asked for
+abbrev pub Put : Holdings → List (List ℕ) → (asked asked' : List (List ℕ)) → (old new : Meaning) → ℕ → (out out' err err' : Option (List ℕ)) → Type 0
+Put told words asked asked' old new status out out' err err' =
+    (names : List (List ℕ)) × (text : List ℕ) × (report : List ℕ) × (asked' ≡ asked ++ names) × IsOutcome told words names old new status text report × Whole out out' err err' text report
 
--- Right answers: with a status other than 6, 7 and 8 the outcome was put whole.
-abbrev pub Right : (List ℕ → Option (List ℕ)) → List (List ℕ) → ℕ → (out out' err err' : Option (List ℕ)) → Type 0
-Right told words status out out' err err' = Tells told words → (status ≡ 6) ⊎ ((status ≡ 7) ⊎ ((status ≡ 8) ⊎ Put told words status out out' err err'))
+-- Right answers: with a status other than 6, 7, 8 and 9 the outcome was put whole.
+abbrev pub Right : Holdings → List (List ℕ) → (asked asked' : List (List ℕ)) → (old new : Meaning) → ℕ → (out out' err err' : Option (List ℕ)) → Type 0
+Right told words asked asked' old new status out out' err err' = (status ≡ 6) ⊎ ((status ≡ 7) ⊎ ((status ≡ 8) ⊎ ((status ≡ 9) ⊎ Put told words asked asked' old new status out out' err err')))
+
+-- where the words ask to run, the store counts no fault and is not broken before
+abbrev pub StoreHolds : List (List ℕ) → (old new : Meaning) → Type 0
+StoreHolds words old new = (file calls : List ℕ) → AsksToRun words file calls → (Rose old.faults new.faults → ⊥) × (old.broken ≡ false)
 
 -- Completeness: where no count of faults rose, the outcome was put whole, or memory ran out and one line says so.
-abbrev pub Complete : (List ℕ → Option (List ℕ)) → List (List ℕ) → (files files' : ℕ) → (outs outs' : ℕ) → (errs errs' : ℕ) → ℕ → (out out' err err' : Option (List ℕ)) → Type 0
-Complete told words files files' outs outs' errs errs' status out out' err err' =
-    Tells told words → (Rose files files' → ⊥) → (Rose outs outs' → ⊥) → (Rose errs errs' → ⊥)
-    → ((status ≡ 8) × Whole out out' err err' [] no_memory) ⊎ Put told words status out out' err err'
+abbrev pub Complete : Holdings → List (List ℕ) → (asked asked' : List (List ℕ)) → (files files' : ℕ) → (outs outs' : ℕ) → (errs errs' : ℕ) → (old new : Meaning) → ℕ → (out out' err err' : Option (List ℕ)) → Type 0
+Complete told words asked asked' files files' outs outs' errs errs' old new status out out' err err' =
+    (Rose files files' → ⊥) → (Rose outs outs' → ⊥) → (Rose errs errs' → ⊥) → StoreHolds words old new
+    → ((status ≡ 8) × Whole out out' err err' [] no_memory) ⊎ Put told words asked asked' old new status out out' err err'
 
--- what may be under way where a sink fails: the outcome, the line on a file that could not be read, or the one on memory
-pub data IsUnderWay (told : List ℕ → Option (List ℕ)) (words : List (List ℕ)) (files files' : ℕ) (text report : List ℕ) : Type 0 where
-  outcome : (status : ℕ) → IsOutcome told words status text report → IsUnderWay told words files files' text report
-  unread : (file : List ℕ) → NamesJob words file → Rose files files' → text ≡ [] → report ≡ cannot_read file → IsUnderWay told words files files' text report
-  memory : text ≡ [] → report ≡ no_memory → IsUnderWay told words files files' text report
+-- what may be under way where a sink fails: what is due, or the line on memory
+pub data IsUnderWay (told : Holdings) (words names : List (List ℕ)) (files files' : ℕ) (old new : Meaning) (text report : List ℕ) : Type 0 where
+  due : (status : ℕ) → IsDue told words names files files' old new status text report → IsUnderWay told words names files files' old new text report
+  memory : text ≡ [] → report ≡ no_memory → IsUnderWay told words names files files' old new text report
 
 -- One of these was under way, and was cut short.
-abbrev pub CutShort : (List ℕ → Option (List ℕ)) → List (List ℕ) → (files files' : ℕ) → (out out' err err' : Option (List ℕ)) → Type 0
-CutShort told words files files' out out' err err' =
-    (text : List ℕ) × (report : List ℕ) × (Tells told words → IsUnderWay told words files files' text report) × Cut out out' err err' text report
+abbrev pub CutShort : Holdings → List (List ℕ) → (asked asked' : List (List ℕ)) → (files files' : ℕ) → (old new : Meaning) → (out out' err err' : Option (List ℕ)) → Type 0
+CutShort told words asked asked' files files' old new out out' err err' =
+    (names : List (List ℕ)) × (text : List ℕ) × (report : List ℕ) × (asked' ≡ asked ++ names) × IsUnderWay told words names files files' old new text report × Cut out out' err err' text report
 
--- the names asked for in a call: none, or the one that the words name
-abbrev pub Asked : List (List ℕ) → List (List ℕ) → List (List ℕ) → Type 0
-Asked words old new = (new ≡ old) ⊎ ((file : List ℕ) × NamesJob words file × (new ≡ old ++ file ∷ []))
+-- After a file fault nothing is on `out`, and on `err` the line on the file that was asked for last; each one before it gave a job.
+abbrev pub FileReport : Holdings → List (List ℕ) → (asked asked' : List (List ℕ)) → (out out' err err' : Option (List ℕ)) → Type 0
+FileReport told words asked asked' out out' err err' = (before : List (List ℕ)) × (file : List ℕ) × GaveJobs told before × NamesFile words file × (asked' ≡ asked ++ (before ++ file ∷ [])) × Whole out out' err err' [] (cannot_read file)
 
--- After a file fault nothing is on `out`, and the line on the named file on `err`.
-abbrev pub FileReport : List (List ℕ) → (out out' err err' : Option (List ℕ)) → Type 0
-FileReport words out out' err err' = (file : List ℕ) × NamesJob words file × Whole out out' err err' [] (cannot_read file)
+-- A store fails only where the words ask to run and their files gave calls of a job: its count rose, or it was broken before.
+abbrev pub StoreFault : Holdings → List (List ℕ) → (old new : Meaning) → Type 0
+StoreFault told words old new = (file : List ℕ) × (calls : List ℕ) × AsksToRun words file calls × RunFailed told file calls old new
 
 -- the count of faults of one of two sinks rose
 abbrev pub EitherRose : (outs outs' errs errs' : ℕ) → Type 0
 EitherRose outs outs' errs errs' = Rose outs outs' ⊎ Rose errs errs'
 
--- The words name no job, so that they are refused, or ask for work that is not there yet.
-abbrev pub NamesNoJob : List (List ℕ) → Type 0
-NamesNoJob words = (file : List ℕ) → NamesJob words file → ⊥
+-- a status after which the store is as it was: neither 0 nor 7, 8 or 9
+abbrev pub EndsEarly : ℕ → Type 0
+EndsEarly status = (status ≢ 0) × (status ≢ 7) × (status ≢ 8) × (status ≢ 9)

@@ -10,7 +10,9 @@ use Rattle.mig_certificate.specs.declared.proofs.Certificate.{Certificate}
 use Rattle.mig_certificate.specs.AnswerText.{answer_text}
 use Rattle.mig_certificate.specs.Valid.{IsValid}
 use Rattle.mig_io.specs.Taken.{and_then}
-use Rattle.mig_cli.specs.Desk.{NamesJob, Tells}
+use Rattle.mig_cli.specs.Asked.{AsksToMigrate}
+use Rattle.mig_cli.specs.Desk.{Tells}
+use Rattle.mig_cli.specs.Jobs.{Holdings}
 use Rattle.mig_cli.specs.Spellable.{IsSpellable}
 
 -- A text is a migration of the job that these bytes spell: the answer with a new program and a certificate.
@@ -30,8 +32,8 @@ pub record IsMigration (bytes text : List ℕ) : Type 0 where
   pub valid : IsValid job program certificate
   pub equivalent : IsEquivalent job.source job.target job.program program certificate.invariants.list
 
--- Where files tell what they hold: with status 0, `out` took a migration of the job in the file that the words name, whole.
-abbrev pub Migrates : (told : List ℕ → Option (List ℕ)) → (words : List (List ℕ)) → (status : ℕ) → (out out' : Option (List ℕ)) → Type 0
+-- Where files tell what they hold and the words ask to migrate: with status 0, `out` took a migration of the job in the file that the words name, whole.
+abbrev pub Migrates : (told : Holdings) → (words : List (List ℕ)) → (status : ℕ) → (out out' : Option (List ℕ)) → Type 0
 Migrates told words status out out' =
-    Tells told words → status ≡ 0
-    → (file : List ℕ) × (bytes : List ℕ) × (text : List ℕ) × NamesJob words file × (told file ≡ Some bytes) × (out' ≡ and_then out text) × IsMigration bytes text
+    Tells told words → ((file : List ℕ) × AsksToMigrate words file) → status ≡ 0
+    → (file : List ℕ) × (bytes : List ℕ) × (text : List ℕ) × AsksToMigrate words file × (told file ≡ Some bytes) × (out' ≡ and_then out text) × IsMigration bytes text

@@ -1,7 +1,10 @@
 // Calls of the desk on the text of one job in memory, and a worked job with its answer.
+ghost use Rattle.mig_stores.specs.Meaning.{IsAtRest};
+
 use crate::desk;
 use mig_io::{MemFiles, MemSink};
 use mig_schema::{Bytes, Seq, Word};
+use mig_stores::{Store, VecStore};
 use std::alloc::{AllocError, Global};
 
 pub const OLD: &str = "old\ntable user { uid: int, nick: text }\n";
@@ -55,6 +58,29 @@ fn words_of(alloc: Global, list: &[&str]) -> Result<Vec<Word>, AllocError> {
     Ok(words)
 }
 
+/// The desk on these words and files, over this store.
+pub fn called_over<S: Store + Drop>(
+    alloc: Global,
+    list: &[&str],
+    mut files: MemFiles,
+    mut out: MemSink,
+    mut store: S,
+) -> Result<Ended, AllocError>
+    requires { IsAtRest (S.meaning store) }
+{
+    let mut err = ample(alloc)?;
+    let words = words_of(alloc, list)?;
+    let status = desk(
+        alloc,
+        words.as_slice(),
+        &mut files,
+        &mut out,
+        &mut err,
+        &mut store,
+    );
+    Ok(Ended { status, out, err })
+}
+
 /// The desk on these words, where only `job` holds a text.
 pub fn called(
     alloc: Global,
@@ -66,7 +92,15 @@ pub fn called(
     let mut files = MemFiles::new(alloc, Seq::new(alloc));
     files.hold(Seq::from_slice(alloc, b"job")?, text)?;
     let words = words_of(alloc, list)?;
-    let status = desk(alloc, words.as_slice(), &mut files, &mut out, &mut err);
+    let mut store = VecStore::new(alloc);
+    let status = desk(
+        alloc,
+        words.as_slice(),
+        &mut files,
+        &mut out,
+        &mut err,
+        &mut store,
+    );
     Ok(Ended { status, out, err })
 }
 

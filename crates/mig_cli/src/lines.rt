@@ -72,7 +72,7 @@ fn not_expected(alloc: Global, file: &Word, line: u32, column: u32) -> Result<Tx
 }
 
 /// The line on a limit that is passed.
-fn past_limit(alloc: Global, file: &Word, line: u32, which: Limit) -> Result<Txt, AllocError>
+pub fn past_limit(alloc: Global, file: &Word, line: u32, which: Limit) -> Result<Txt, AllocError>
     ensures { IfOk result (λ t. t ≡ spec.past_limit file.now line which) }
 {
     let mut out = Seq::from_slice(alloc, file.as_slice())?;

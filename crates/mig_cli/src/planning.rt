@@ -1,24 +1,19 @@
-// What is to be put for a file, and the status that the desk ends with.
-ghost use Rattle.std.specs.Prelude.{◌≡◌, ◌≢◌, ◌<◌, ◌≤◌, ◌++◌, ◌∷◌, [], ◌⊎◌, List, ℕ, Some, IfOk, length};
-ghost use Rattle.mig_io.specs.Counts.{Rose};
-ghost use Rattle.mig_schema.specs.Plain.{IsPlain};
-ghost use Rattle.mig_schema.specs.Typed.{IsTyped};
-ghost use Rattle.mig_cli.specs.Desk as spec;
+// What is to be put, the status that the desk ends with, and the files that are read for it.
+ghost use Rattle.std.specs.Prelude.{◌≡◌, ◌≢◌, ◌≤◌, ◌++◌, ◌∷◌, [], IfOk, IfErr, length};
+ghost use Rattle.mig_syntax.specs.Job.{IsTypedJobText};
+ghost use Rattle.mig_syntax.specs.Within.{IsProgramWithin};
+ghost use Rattle.mig_cli.specs.Jobs as spec;
 ghost use Rattle.mig_cli.specs.Lines as lines;
+ghost use Rattle.mig_cli.specs.Planned.{IsFaulty, IsNoJob, IsUnfetched};
 
-use crate::certifying::certified;
 use crate::lines::{fault_line, line_of};
-use crate::renaming::renamed;
-use mig_certificate::print_answer;
-use mig_checker::{Verdict, check};
 use mig_io::{FetchFault, Files};
-use mig_plain::is_plain;
 use mig_schema::{Bytes, Job, Seq, Txt, Word};
 use mig_syntax::{TextFault, read_job};
 use std::alloc::{AllocError, Global};
 
 /// The greatest length of a job, in bytes.
-const CAP: u64 = 262144;
+const JOB_CAP: u64 = 262144;
 
 /// A status, and the texts for `out` and for `err`.
 #[derive(Drop)]
@@ -41,17 +36,33 @@ pub fn refusal(alloc: Global, status: u8, report: Txt) -> Plan
     }
 }
 
-/// The answer to a plain job. The checker accepts what is made of each plain job, and nothing else is written.
-fn answer_of(alloc: Global, job: &Job) -> Result<Txt, AllocError>
-    requires plain { IsPlain job.now }
-    requires typed { IsTyped job.now }
-    ensures { IfOk result (λ t. t ≡ spec.answer job.now) }
+/// A plan that puts nothing on `out`, and on `err` the file's name and this.
+pub fn refused_file(alloc: Global, file: &Word, status: u8, over: &str) -> Result<Plan, AllocError>
+    ensures { IfOk result (λ p. (p.status ≡ status) × (p.text ≡ []) × (p.report ≡ file.now ++ over.now)) }
 {
-    let program = renamed(alloc, job)?;
-    let certificate = certified(alloc, job)?;
-    match check(alloc, job, &program, &certificate)? {
-        Verdict::Accepted => print_answer(alloc, job, &program, &certificate),
-        Verdict::Rejected { .. } => unreachable!(),
+    let report = line_of(alloc, file, over)?;
+    Ok(refusal(alloc, status, report))
+}
+
+/// The bytes of the named file, at most so many, or the plan of its refusal. `over` is said of a longer file.
+pub fn fetched<F: Files>(
+    alloc: Global,
+    file: &Word,
+    files: &mut F,
+    cap: u64,
+    over: &str,
+) -> Result<Result<Bytes, Plan>, AllocError>
+    ensures gave { IfOk result (λ r. IfOk r (λ bytes. spec.Gave (F.told files.old) file.now cap bytes)) }
+    ensures refused { IfOk result (λ r. IfErr r (λ p. IsUnfetched (F.told files.old) file.now cap over.now (F.faults files.old) (F.faults files.new) p.status p.text p.report)) }
+    ensures asked { F.asked files.new ≡ F.asked files.old ++ file.now ∷ [] }
+    ensures told { F.told files.new ≡ F.told files.old }
+    ensures later { F.faults files.old ≤ F.faults files.new }
+{
+    match files.fetch(alloc, file, cap) {
+        Ok(bytes) => Ok(Ok(bytes)),
+        Err(FetchFault::Memory) => Err(AllocError),
+        Err(FetchFault::Failed) => Ok(Err(refused_file(alloc, file, 6, ": cannot read\n")?)),
+        Err(FetchFault::Long) => Ok(Err(refused_file(alloc, file, 10, over)?)),
     }
 }
 
@@ -74,69 +85,32 @@ fn faulty_plan(alloc: Global, file: &Word, fault: TextFault) -> Result<Plan, All
     Ok(refusal(alloc, fault_status(fault), report))
 }
 
-/// The plan for a typed job that is not plain.
-fn unbuilt_plan(alloc: Global, file: &Word) -> Result<Plan, AllocError>
-    ensures { IfOk result (λ p. (p.status ≡ 2) × (p.text ≡ []) × (p.report ≡ lines.not_built file.now)) }
-{
-    let report = line_of(alloc, file, ":0:0: not built\n")?;
-    Ok(refusal(alloc, 2, report))
-}
-
-/// The plan for a plain job.
-fn done_plan(alloc: Global, job: &Job) -> Result<Plan, AllocError>
-    requires plain { IsPlain job.now }
-    requires typed { IsTyped job.now }
-    ensures { IfOk result (λ p. (p.status ≡ 0) × (p.text ≡ spec.answer job.now) × (p.report ≡ lines.found)) }
-{
-    Ok(Plan {
-        status: 0,
-        text: answer_of(alloc, job)?,
-        report: Seq::from_slice(alloc, b"found: 0 entries\n")?,
-    })
-}
-
-/// The plan for a typed job.
-fn job_plan(alloc: Global, file: &Word, job: &Job) -> Result<Plan, AllocError>
-    requires typed { IsTyped job.now }
-    ensures plain { IfOk result (λ p. IsPlain job.now → (p.status ≡ 0) × (p.text ≡ spec.answer job.now) × (p.report ≡ lines.found)) }
-    ensures other { IfOk result (λ p. (IsPlain job.now → ⊥) → (p.status ≡ 2) × (p.text ≡ []) × (p.report ≡ lines.not_built file.now)) }
-    ensures either { IfOk result (λ p. IsPlain job.now ⊎ (IsPlain job.now → ⊥)) }
-{
-    if is_plain(job) {
-        done_plan(alloc, job)
-    } else {
-        unbuilt_plan(alloc, file)
-    }
-}
-
-/// The plan for the bytes of a job.
-fn read_plan(alloc: Global, file: &Word, bytes: &Bytes) -> Result<Plan, AllocError>
-    requires { length bytes.now ≤ spec.cap }
-    ensures { IfOk result (λ p. spec.IsRead file.now bytes.now p.status p.text p.report) }
+/// The job that the bytes of a file spell, or the plan of their refusal.
+fn job_of(alloc: Global, file: &Word, bytes: &Bytes) -> Result<Result<Job, Plan>, AllocError>
+    requires { length bytes.now ≤ spec.job_cap }
+    ensures found { IfOk result (λ r. IfOk r (λ job. IsTypedJobText bytes.now job × IsProgramWithin job.program)) }
+    ensures refused { IfOk result (λ r. IfErr r (λ p. IsFaulty file.now bytes.now p.status p.text p.report)) }
 {
     match read_job(alloc, bytes.as_slice()) {
-        Ok(job) => job_plan(alloc, file, &job),
-        Err(fault) => faulty_plan(alloc, file, fault),
+        Ok(job) => Ok(Ok(job)),
+        Err(fault) => Ok(Err(faulty_plan(alloc, file, fault)?)),
     }
 }
 
-/// The plan for the named file.
-pub fn fetched_plan<F: Files>(alloc: Global, file: &Word, files: &mut F) -> Result<Plan, AllocError>
-    ensures read { IfOk result (λ p. (bytes : List ℕ) → F.told files.old file.now ≡ Some bytes → (p.status ≡ 6) ⊎ spec.IsFetched file.now bytes p.status p.text p.report) }
-    ensures report { IfOk result (λ p. p.status ≡ 6 → (p.text ≡ []) × (p.report ≡ lines.cannot_read file.now)) }
-    ensures cause { IfOk result (λ p. p.status ≡ 6 → Rose (F.faults files.old) (F.faults files.new)) }
-    ensures statuses { IfOk result (λ p. (p.status ≢ 1) × (p.status ≢ 7) × (p.status ≢ 8)) }
+/// The job in the named file, or the plan of its refusal.
+pub fn job_in<F: Files>(
+    alloc: Global,
+    file: &Word,
+    files: &mut F,
+) -> Result<Result<Job, Plan>, AllocError>
+    ensures gave { IfOk result (λ r. IfOk r (λ job. spec.GaveJob (F.told files.old) file.now job × IsProgramWithin job.program)) }
+    ensures refused { IfOk result (λ r. IfErr r (λ p. IsNoJob (F.told files.old) file.now (F.faults files.old) (F.faults files.new) p.status p.text p.report)) }
     ensures asked { F.asked files.new ≡ F.asked files.old ++ file.now ∷ [] }
     ensures told { F.told files.new ≡ F.told files.old }
     ensures later { F.faults files.old ≤ F.faults files.new }
 {
-    match files.fetch(alloc, file, CAP) {
-        Ok(bytes) => read_plan(alloc, file, &bytes),
-        Err(FetchFault::Memory) => Err(AllocError),
-        Err(FetchFault::Failed) => Ok(refusal(alloc, 6, line_of(alloc, file, ": cannot read\n")?)),
-        Err(FetchFault::Long) => {
-            let report = line_of(alloc, file, ": longer than 262144 bytes\n")?;
-            Ok(refusal(alloc, 10, report))
-        }
+    match fetched(alloc, file, files, JOB_CAP, ": longer than 262144 bytes\n")? {
+        Ok(bytes) => job_of(alloc, file, &bytes),
+        Err(plan) => Ok(Err(plan)),
     }
 }

@@ -3,7 +3,7 @@ use crate::calling::{HINTS, NEW, OLD, PROGRAM, ample, called, joined, migrated};
 use std::test::Fail;
 
 /// Words, their status and their line. No other file than `job` is there.
-const WORDS: [(&[&str], u8, &str); 13] = [
+const WORDS: [(&[&str], u8, &str); 14] = [
     (&[], 1, "words: no command\n"),
     (&["move"], 1, "words: unknown word 1\n"),
     (&["migrate"], 1, "words: missing\n"),
@@ -20,7 +20,8 @@ const WORDS: [(&[&str], u8, &str); 13] = [
     ),
     (&["check", "job"], 1, "words: missing\n"),
     (&["check", "job", "job"], 1, "words: not built\n"),
-    (&["run", "job", "job"], 1, "words: not built\n"),
+    (&["run", "job", "jo"], 6, "jo: cannot read\n"),
+    (&["run", "jo", "job"], 6, "jo: cannot read\n"),
     (&["run", "job", "job", "job"], 1, "words: not built\n"),
     (&["trial", "1"], 1, "words: not built\n"),
     (&["migrate", "jo"], 6, "jo: cannot read\n"),

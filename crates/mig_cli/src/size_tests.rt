@@ -3,6 +3,7 @@ use crate::{certified, desk, renamed};
 use mig_checker::{Verdict, check};
 use mig_io::{MemFiles, MemSink};
 use mig_schema::{Bytes, Seq, Word};
+use mig_stores::VecStore;
 use mig_syntax::read_job;
 use std::alloc::{AllocError, Global};
 use std::test::Fail;
@@ -151,7 +152,15 @@ fn status_of(alloc: Global, text: Bytes) -> Result<u8, AllocError> {
     words.push(Seq::from_slice(alloc, b"job")?)?;
     let mut out = MemSink::new(alloc, 100_000, 4096, Seq::new(alloc))?;
     let mut err = MemSink::new(alloc, 100_000, 4096, Seq::new(alloc))?;
-    Ok(desk(alloc, words.as_slice(), &mut files, &mut out, &mut err))
+    let mut store = VecStore::new(alloc);
+    Ok(desk(
+        alloc,
+        words.as_slice(),
+        &mut files,
+        &mut out,
+        &mut err,
+        &mut store,
+    ))
 }
 
 /// Sizes of plain jobs.

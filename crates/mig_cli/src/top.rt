@@ -1,31 +1,26 @@
 // The desk itself: the plan for the words, and then its texts put.
-ghost use Rattle.std.specs.Prelude.{◌≡◌, ◌≢◌, ◌≤◌, ◌++◌, ◌∷◌, [], ◌⊎◌, List, ℕ, IfOk};
-ghost use Rattle.std.specs.Option.{option_copied};
+ghost use Rattle.std.specs.Prelude.{◌≡◌, ◌≢◌, ◌≤◌, ◌++◌, [], List, ℕ, IfOk};
 ghost use Rattle.mig_io.specs.Counts.{Rose};
+ghost use Rattle.mig_stores.specs.Meaning.{IsAtRest};
 ghost use Rattle.mig_words.specs.declared.command.WordFault.TheVariants as word;
+ghost use Rattle.mig_playing.specs.Playing.{Lasts};
+ghost use Rattle.mig_cli.specs.Asked as asked;
 ghost use Rattle.mig_cli.specs.Desk as spec;
 ghost use Rattle.mig_cli.specs.Lines as lines;
+ghost use Rattle.mig_cli.specs.CallLines.{store_failed};
 ghost use Rattle.mig_cli.specs.Headline.{Migrates};
+ghost use Rattle.mig_cli.specs.Running.{IsLeft};
 
 use crate::ending::finish;
 use crate::lines::words_line;
-use crate::planning::{Plan, fetched_plan, refusal};
+use crate::migrating::migrated_plan;
+use crate::planning::{Plan, refusal};
+use crate::running::run_plan;
 use mig_io::{Files, Sink};
 use mig_schema::{Seq, Word};
+use mig_stores::Store;
 use mig_words::{Command, WordFault, read_words};
 use std::alloc::{AllocError, Global};
-
-/// The file that a command migrates; the work of the other commands is not there yet.
-fn job_of(command: &Command) -> Option<&Word>
-    ensures { option_copied result ≡ spec.job_of command.now }
-{
-    match command {
-        Command::Migrate { job, .. } => Some(job),
-        Command::Check { .. } => None,
-        Command::Run { .. } => None,
-        Command::Trial { .. } => None,
-    }
-}
 
 /// The plan for words that are no command.
 fn refused_plan(alloc: Global, fault: WordFault) -> Result<Plan, AllocError>
@@ -44,72 +39,104 @@ fn unbuilt_plan(alloc: Global) -> Result<Plan, AllocError>
 }
 
 /// What is to be put for the words.
-fn plan<F: Files>(alloc: Global, words: &[Word], files: &mut F) -> Result<Plan, AllocError>
-    ensures right { IfOk result (λ p. spec.Tells (F.told files.old) words.now → (p.status ≡ 6) ⊎ spec.IsOutcome (F.told files.old) words.now p.status p.text p.report) }
-    ensures report { IfOk result (λ p. p.status ≡ 6 → (file : List ℕ) × spec.NamesJob words.now file × (p.text ≡ []) × (p.report ≡ lines.cannot_read file)) }
-    ensures cause { IfOk result (λ p. p.status ≡ 6 → Rose (F.faults files.old) (F.faults files.new)) }
-    ensures refused { IfOk result (λ p. p.status ≡ 1 → spec.NamesNoJob words.now) }
-    ensures statuses { IfOk result (λ p. (p.status ≢ 7) × (p.status ≢ 8)) }
-    ensures asked { spec.Asked words.now (F.asked files.old) (F.asked files.new) }
+fn plan<F: Files, S: Store>(
+    alloc: Global,
+    words: &[Word],
+    files: &mut F,
+    store: &mut S,
+) -> Result<Plan, AllocError>
+    requires rest { IsAtRest (S.meaning store.old) }
+    ensures due { IfOk result (λ p. (names : List (List ℕ)) × (F.asked files.new ≡ F.asked files.old ++ names) × spec.IsDue (F.told files.old) words.now names (F.faults files.old) (F.faults files.new) (S.meaning store.old) (S.meaning store.new) p.status p.text p.report) }
+    ensures refused { IfOk result (λ p. p.status ≡ 1 → asked.AsksForNothing words.now) }
+    ensures left { IsLeft (F.told files.old) words.now (S.meaning store.old) (S.meaning store.new) }
+    ensures asked { asked.AskedFirst words.now (F.asked files.old) (F.asked files.new) }
     ensures told { F.told files.new ≡ F.told files.old }
     ensures later { F.faults files.old ≤ F.faults files.new }
+    ensures lasts { Lasts (S.meaning store.old) (S.meaning store.new) }
+    ensures rest { IsAtRest (S.meaning store.new) }
 {
     match read_words(alloc, words) {
         Err(fault) => refused_plan(alloc, fault),
-        Ok(command) => match job_of(&command) {
-            Some(file) => fetched_plan(alloc, file, files),
-            None => unbuilt_plan(alloc),
+        Ok(command) => match command {
+            Command::Migrate { job, .. } => migrated_plan(alloc, &job, files),
+            Command::Run { job, calls, answer } => match answer {
+                None => run_plan(alloc, &job, &calls, files, store),
+                Some(_) => unbuilt_plan(alloc),
+            },
+            Command::Check { .. } => unbuilt_plan(alloc),
+            Command::Trial { .. } => unbuilt_plan(alloc),
         },
     }
 }
 
 /// Does what the words say, puts an answer on `out` and a report on `err`, and answers the status.
 ///
-/// The words are those of a command line without the program's name (`read_words`). The only command whose work is there
-/// is `migrate FILE`, with its options; FILE holds a job (`read_job`).
+/// The words are those of a command line without the program's name (`read_words`). The commands whose work is there are
+/// `migrate FILE`, with its options, and `run FILE CALLS`; FILE holds a job (`read_job`), and CALLS calls of its program
+/// (`read_calls`), which are played over the store from empty tables (`play`).
 ///
 /// | status | when | on `out` | on `err` |
 /// |---|---|---|---|
-/// | 0 | the job is plain: one table is renamed | the new program and its certificate | `found: 0 entries` |
+/// | 0 | `migrate`, and the job is plain: one table is renamed | the new program and its certificate | `found: 0 entries` |
+/// | 0 | `run`, and all calls were played | what the query calls answer | |
 /// | 1 | the words are no command | | `words: ` and their first fault |
 /// | 1 | the command is another | | `words: not built` |
-/// | 2 | the text of the file has a wrong token | | `FILE:LINE:COLUMN: not expected` |
+/// | 2 | the text of the job has a wrong token | | `FILE:LINE:COLUMN: not expected` |
 /// | 2 | the job breaks a typing rule | | `FILE: RULE at A B` |
-/// | 2 | the typed job is not plain | | `FILE:0:0: not built` |
-/// | 6 | the file could not be read: the count of `files` rose | | `FILE: cannot read` |
+/// | 2 | `migrate`, and the typed job is not plain | | `FILE:0:0: not built` |
+/// | 6 | a file could not be read: the count of `files` rose | | `FILE: cannot read` |
 /// | 7 | a sink failed: its count rose | a prefix of its text | nothing, or a prefix where `out` has all of its text |
 /// | 8 | memory ran out | | `out of memory` |
-/// | 10 | the file is longer than 262,144 bytes | | `FILE: longer than 262144 bytes` |
-/// | 10 | the text passes a limit | | `FILE:LINE: limit NAME` |
+/// | 9 | `run`, the calls are sound, and the store failed: its count rose, or it was broken before | | `store failed` |
+/// | 10 | the job is longer than 262,144 bytes, or the calls than 8,388,608 | | `FILE: longer than N bytes` |
+/// | 10 | the text of the job passes a limit | | `FILE:LINE: limit NAME` |
+/// | 10 | there are more than 100,000 calls | | `CALLS:0: limit calls` |
+/// | 11 | a record says no call of the program, and is the first | | `CALLS: record N: WHY` |
+///
+/// Files are asked for in the order of the words, and none after a refusal. Calls are played only where all of them are
+/// sound. After `run` with 7, 8 or 9 the store tells the state at entry, or that after the first n calls, none left out,
+/// or it is broken; a call that ends otherwise than with 0, 7, 8 or 9 leaves it alone, and so does every `migrate`.
+///
+/// No transaction may be begun in the store, unless it is broken; so it is left.
 ///
 /// All text is built before any is put; from then on no memory is taken. `docs/PROGRAM.md` has the rules.
-pub fn desk<F: Files, W: Sink, E: Sink>(
+pub fn desk<F: Files, W: Sink, E: Sink, S: Store>(
     alloc: Global,
     words: &[Word],
     files: &mut F,
     out: &mut W,
     err: &mut E,
+    store: &mut S,
 ) -> u8
-    // Where it ends with 0, `out` took a new program that does what the old one did, and a valid certificate of it.
+    requires rest { IsAtRest (S.meaning store.old) }
+    // Where it migrates and ends with 0, `out` took a new program that does what the old one did, and a valid certificate of it.
     ensures migrates { Migrates (F.told files.old) words.now result (W.took out.old) (W.took out.new) }
-    // Right answers: whatever failed, a status other than 6, 7 and 8 is the outcome's, which was put whole.
-    ensures right { spec.Right (F.told files.old) words.now result (W.took out.old) (W.took out.new) (E.took err.old) (E.took err.new) }
+    // Right answers: whatever failed, a status other than 6, 7, 8 and 9 is the outcome's, which was put whole.
+    ensures right { spec.Right (F.told files.old) words.now (F.asked files.old) (F.asked files.new) (S.meaning store.old) (S.meaning store.new) result (W.took out.old) (W.took out.new) (E.took err.old) (E.took err.new) }
     // Completeness: where nothing failed, the outcome was put whole, unless memory ran out.
-    ensures complete { spec.Complete (F.told files.old) words.now (F.faults files.old) (F.faults files.new) (W.faults out.old) (W.faults out.new) (E.faults err.old) (E.faults err.new) result (W.took out.old) (W.took out.new) (E.took err.old) (E.took err.new) }
-    // Words are refused for no other reason, also where the files do not tell.
-    ensures refused { result ≡ 1 → spec.NamesNoJob words.now }
+    ensures complete { spec.Complete (F.told files.old) words.now (F.asked files.old) (F.asked files.new) (F.faults files.old) (F.faults files.new) (W.faults out.old) (W.faults out.new) (E.faults err.old) (E.faults err.new) (S.meaning store.old) (S.meaning store.new) result (W.took out.old) (W.took out.new) (E.took err.old) (E.took err.new) }
+    // Words are refused for no other reason.
+    ensures refused { result ≡ 1 → asked.AsksForNothing words.now }
     ensures file_fault { result ≡ 6 → Rose (F.faults files.old) (F.faults files.new) }
     ensures sink_fault { result ≡ 7 → spec.EitherRose (W.faults out.old) (W.faults out.new) (E.faults err.old) (E.faults err.new) }
-    // After a file fault or want of memory nothing is on `out`, and one line on `err`.
-    ensures file_report { result ≡ 6 → spec.FileReport words.now (W.took out.old) (W.took out.new) (E.took err.old) (E.took err.new) }
+    ensures store_fault { result ≡ 9 → spec.StoreFault (F.told files.old) words.now (S.meaning store.old) (S.meaning store.new) }
+    // After a fault of a file or of the store, or want of memory, nothing is on `out`, and one line on `err`.
+    ensures file_report { result ≡ 6 → spec.FileReport (F.told files.old) words.now (F.asked files.old) (F.asked files.new) (W.took out.old) (W.took out.new) (E.took err.old) (E.took err.new) }
     ensures memory_report { result ≡ 8 → spec.Whole (W.took out.old) (W.took out.new) (E.took err.old) (E.took err.new) [] lines.no_memory }
+    ensures store_report { result ≡ 9 → spec.Whole (W.took out.old) (W.took out.new) (E.took err.old) (E.took err.new) [] store_failed }
     // After a sink's fault `out` has a prefix of its text, and `err` nothing unless `out` has all of it.
-    ensures cut { result ≡ 7 → spec.CutShort (F.told files.old) words.now (F.faults files.old) (F.faults files.new) (W.took out.old) (W.took out.new) (E.took err.old) (E.took err.new) }
-    // No name is asked for but the one that the words give.
-    ensures asked { spec.Asked words.now (F.asked files.old) (F.asked files.new) }
+    ensures cut { result ≡ 7 → spec.CutShort (F.told files.old) words.now (F.asked files.old) (F.asked files.new) (F.faults files.old) (F.faults files.new) (S.meaning store.old) (S.meaning store.new) (W.took out.old) (W.took out.new) (E.took err.old) (E.took err.new) }
+    // The store is left alone, or as the first calls left it that the words ask to run, or broken.
+    ensures left { IsLeft (F.told files.old) words.now (S.meaning store.old) (S.meaning store.new) }
+    ensures alone { asked.AsksForNoRun words.now → S.meaning store.new ≡ S.meaning store.old }
+    ensures spared { spec.EndsEarly result → S.meaning store.new ≡ S.meaning store.old }
+    ensures lasts { Lasts (S.meaning store.old) (S.meaning store.new) }
+    ensures rest { IsAtRest (S.meaning store.new) }
+    // No names are asked for but those that the words give, in their order.
+    ensures asked { asked.AskedFirst words.now (F.asked files.old) (F.asked files.new) }
     ensures told { F.told files.new ≡ F.told files.old }
 {
-    match plan(alloc, words, files) {
+    match plan(alloc, words, files, store) {
         Ok(plan) => finish(
             plan.status,
             out,

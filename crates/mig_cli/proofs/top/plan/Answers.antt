@@ -1,29 +1,37 @@
-use Rattle.std.proofs.Common.{inr, sym}
-use Rattle.mig_cli.proofs.Planned.{taken, unread, unbuilt, refused, other-command, faulty-words, none-named, said-anyway}
+use Rattle.std.proofs.Common.{inr, refl}
+use Rattle.mig_words.specs.declared.command.Command.TheVariants.{Migrate}
+use Rattle.mig_cli.proofs.Commands.{faulty-nothing}
+use Rattle.mig_cli.proofs.Worded.{left, migrated, none-named, refused, run, run-names, unbuilt}
 use Rattle.mig_cli.proofs.top.plan.Goals as goal
 
-pub returns-in-Err-clause-right : goal.returns-in-Err-clause-right
-returns-in-Err-clause-right g c = refused _ _ c.in-Err.fault c.in-Err.ensures.fault c.refused_plan.result c.refused_plan.ensures
+pub returns-in-Err-clause-due : goal.returns-in-Err-clause-due
+returns-in-Err-clause-due g c = refused _ _ _ _ _ _ _ _ c.in-Err.fault c.in-Err.ensures.fault c.refused_plan.result refl refl c.refused_plan.ensures
 
 pub returns-in-Err-clause-refused : goal.returns-in-Err-clause-refused
 returns-in-Err-clause-refused g c =
-    none-named _ c.in-Err.fault (λ other. faulty-words c.args.words.now c.in-Err.fault other c.read_words.result c.in-Err.is c.read_words.ensures.only) c.refused_plan.result c.refused_plan.ensures
+    none-named _ c.in-Err.fault (λ other. faulty-nothing c.args.words.now c.in-Err.fault other c.read_words.result c.in-Err.is c.read_words.ensures.only) c.refused_plan.result c.refused_plan.ensures
 
-pub returns-in-Some-clause-right : goal.returns-in-Some-clause-right
-returns-in-Some-clause-right g c =
-    taken (g.F.Files.told c.args.files.now) c.args.words.now c.in-Some.file.now (c.in-Ok.command, c.in-Ok.ensures.found, sym c.in-Some.ensures) c.fetched_plan.result c.fetched_plan.ensures.read
+pub returns-in-Migrate-clause-due : goal.returns-in-Migrate-clause-due
+returns-in-Migrate-clause-due g c =
+    migrated _ _ _ _ _ _ _ _ c.in-Migrate.job (c.in-Migrate.options, rw c.in-Migrate.is at c.in-Ok.ensures.found) c.migrated_plan.result c.migrated_plan.ensures.asked refl c.migrated_plan.ensures.plan
 
-pub returns-in-Some-clause-report : goal.returns-in-Some-clause-report
-returns-in-Some-clause-report g c =
-    unread c.args.words.now c.in-Some.file.now (c.in-Ok.command, c.in-Ok.ensures.found, sym c.in-Some.ensures) c.fetched_plan.result c.fetched_plan.ensures.report
+pub returns-in-Migrate-clause-asked : goal.returns-in-Migrate-clause-asked
+returns-in-Migrate-clause-asked g c = inr (Migrate c.in-Migrate.job c.in-Migrate.options, 1, rw c.in-Migrate.is at c.in-Ok.ensures.found, c.migrated_plan.ensures.asked)
 
-pub returns-in-Some-clause-asked : goal.returns-in-Some-clause-asked
-returns-in-Some-clause-asked g c = inr (c.in-Some.file.now, (c.in-Ok.command, c.in-Ok.ensures.found, sym c.in-Some.ensures), c.fetched_plan.ensures.asked)
+pub returns-in-None-clause-due : goal.returns-in-None-clause-due
+returns-in-None-clause-due g c = run _ _ _ _ _ _ _ _ c.in-Run.job c.in-Run.calls (rw (c.in-Run.is, c.in-None.is) at c.in-Ok.ensures.found) c.run_plan.result c.run_plan.ensures.plan
 
-pub returns-clause-right : goal.returns-clause-right
-returns-clause-right g c =
-    unbuilt (g.F.Files.told c.args.files.now) c.args.words.now c.in-Ok.command c.in-Ok.ensures.found (sym c.in-None.ensures) c.unbuilt_plan.result c.unbuilt_plan.ensures
+pub returns-in-None-clause-left : goal.returns-in-None-clause-left
+returns-in-None-clause-left g c = left _ _ _ _ c.in-Run.job c.in-Run.calls (rw (c.in-Run.is, c.in-None.is) at c.in-Ok.ensures.found) c.run_plan.ensures.left
 
-pub returns-clause-refused : goal.returns-clause-refused
-returns-clause-refused g c =
-    said-anyway _ (other-command c.args.words.now c.in-Ok.command (sym c.in-None.ensures) c.read_words.result c.in-Ok.is c.read_words.ensures.only) c.unbuilt_plan.result
+pub returns-in-None-clause-asked : goal.returns-in-None-clause-asked
+returns-in-None-clause-asked g c = run-names _ _ _ c.in-Run.job c.in-Run.calls (rw (c.in-Run.is, c.in-None.is) at c.in-Ok.ensures.found) c.run_plan.ensures.asked
+
+pub returns-in-Run-clause-due : goal.returns-in-Run-clause-due
+returns-in-Run-clause-due g c = unbuilt _ _ _ _ _ _ _ _ c.in-Ok.command c.in-Ok.ensures.found (rw (c.in-Run.is, c.in-Some.is) refl) c.unbuilt_plan.result refl refl c.unbuilt_plan.ensures
+
+pub returns-in-Check-clause-due : goal.returns-in-Check-clause-due
+returns-in-Check-clause-due g c = unbuilt _ _ _ _ _ _ _ _ c.in-Ok.command c.in-Ok.ensures.found (rw c.in-Check.is refl) c.unbuilt_plan-in-Check.result refl refl c.unbuilt_plan-in-Check.ensures
+
+pub returns-clause-due : goal.returns-clause-due
+returns-clause-due g c = unbuilt _ _ _ _ _ _ _ _ c.in-Ok.command c.in-Ok.ensures.found (rw c.in-Trial.is refl) c.unbuilt_plan-in-Trial.result refl refl c.unbuilt_plan-in-Trial.ensures

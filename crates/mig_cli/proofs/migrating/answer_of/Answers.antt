@@ -1,7 +1,7 @@
 use Rattle.mig_checker.specs.declared.verdicts.Verdict.TheVariants.{Accepted}
 use Rattle.mig_certificate.specs.Valid.{IsValid}
 use Rattle.mig_cli.proofs.RenamedValid.{made-valid}
-use Rattle.mig_cli.proofs.planning.answer_of.Goals as goal
+use Rattle.mig_cli.proofs.migrating.answer_of.Goals as goal
 
 pub unreachable-requires : goal.unreachable-requires
 unreachable-requires c =

@@ -1,0 +1,39 @@
+-- What words ask for, and the files that they name for it.
+use Rattle.std.specs.Prelude.{◌≡◌, ℕ, List, [], ◌∷◌, ◌++◌, take, Some, None, ◌⊎◌}
+use Rattle.mig_meaning.specs.Lists.{In}
+use Rattle.mig_words.specs.declared.command.Options.{Options}
+use Rattle.mig_words.specs.declared.command.Command.{Command}
+use Rattle.mig_words.specs.declared.command.Command.TheVariants.{Migrate, Check, Run, Trial}
+use Rattle.mig_words.specs.Commands.{IsCommand}
+
+-- the files that a command reads, in order; the work of some commands is not there yet, and reads none
+abbrev pub files_of : Command → List (List ℕ)
+files_of (Migrate job options) = job ∷ []
+files_of (Check job answer) = []
+files_of (Run job calls None) = job ∷ calls ∷ []
+files_of (Run job calls (Some answer)) = []
+files_of (Trial number) = []
+
+-- The words ask to migrate the job in this file. Their options change nothing as long as only plain jobs are migrated.
+abbrev pub AsksToMigrate : List (List ℕ) → List ℕ → Type 0
+AsksToMigrate words file = (options : Options) × IsCommand words (Migrate file options)
+
+-- the words ask to run the old program of the job in the one file on the calls in the other
+abbrev pub AsksToRun : List (List ℕ) → (file calls : List ℕ) → Type 0
+AsksToRun words file calls = IsCommand words (Run file calls None)
+
+-- The words ask for work that is not there yet, or are refused.
+abbrev pub AsksForNothing : List (List ℕ) → Type 0
+AsksForNothing words = (command : Command) → IsCommand words command → files_of command ≡ []
+
+-- the words do not ask to run a program
+abbrev pub AsksForNoRun : List (List ℕ) → Type 0
+AsksForNoRun words = (file calls : List ℕ) → AsksToRun words file calls → ⊥
+
+-- this is one of the files that the words name for their work
+abbrev pub NamesFile : List (List ℕ) → List ℕ → Type 0
+NamesFile words file = (command : Command) × IsCommand words command × In file (files_of command)
+
+-- the names asked for in a call are the first files of the command, so many
+abbrev pub AskedFirst : List (List ℕ) → (old new : List (List ℕ)) → Type 0
+AskedFirst words old new = (new ≡ old) ⊎ ((command : Command) × (n : ℕ) × IsCommand words command × (new ≡ old ++ take n (files_of command)))

@@ -1,0 +1,58 @@
+-- What files give that are read, and what a job's file leads to.
+use Rattle.std.specs.Prelude.{◌≡◌, ℕ, ◌<◌, ◌≤◌, List, length, Option}
+use Rattle.std.specs.Option.{ForSome}
+use Rattle.mig_schema.specs.declared.faults.TypeFault.{TypeFault}
+use Rattle.mig_schema.specs.declared.jobs.Job.{Job}
+use Rattle.mig_meaning.specs.Lists.{Each}
+use Rattle.mig_tokens.specs.declared.fault.Limit.{Limit}
+use Rattle.mig_tokens.specs.declared.fault.Limit.TheVariants.{Pairs}
+use Rattle.mig_tokens.specs.Refused.{StandsWrong, StandsPast}
+use Rattle.mig_grammar.specs.Spelling.{job_tokens}
+use Rattle.mig_grammar.specs.Shapes.{IsJobTree}
+use Rattle.mig_syntax.specs.declared.fault.TextFault.{TextFault}
+use Rattle.mig_syntax.specs.declared.fault.TextFault.TheVariants as fault
+use Rattle.mig_syntax.specs.Job.{IsTypedJobText, IsMistypedJobText, HasManyPairs}
+use Rattle.mig_cli.specs.Lines.{too_long, fault_status, fault_line}
+
+-- ---- files
+
+-- What names are told to hold. Files that do not tell have `None` there.
+abbrev pub Holdings : Type 0
+Holdings = List ℕ → Option (List ℕ)
+
+-- The file gave these bytes, at most so many; where it tells what it holds, they are the told ones.
+pub record Gave (told : Holdings) (file : List ℕ) (cap : ℕ) (bytes : List ℕ) : Type 0 where
+  pub holds : ForSome (told file) (λ held. bytes ≡ held)
+  pub few : length bytes ≤ cap
+
+-- the file is longer; where it tells what it holds, the told bytes are more
+abbrev pub IsLonger : Holdings → List ℕ → ℕ → Type 0
+IsLonger told file cap = ForSome (told file) (λ held. cap < length held)
+
+-- ---- jobs
+
+-- the greatest length of a job
+abbrev pub job_cap : ℕ
+job_cap = 262144
+
+-- the first fault of bytes that spell no typed job within the limits: the first wrong token or passed limit, then the first broken typing rule, then too many pairs of columns
+pub data IsTextFault (bytes : List ℕ) (e : TextFault) : Type 0 where
+  wrong : (row column : ℕ) → StandsWrong job_tokens IsJobTree bytes row column → e ≡ fault.At row column → IsTextFault bytes e
+  past : (which : Limit) (row : ℕ) → StandsPast job_tokens IsJobTree which bytes row → e ≡ fault.Limit which row → IsTextFault bytes e
+  mistyped : (f : TypeFault) → IsMistypedJobText bytes f → e ≡ fault.Typing f → IsTextFault bytes e
+  many : HasManyPairs bytes → e ≡ fault.Limit Pairs 0 → IsTextFault bytes e
+
+-- the status and the line with which a job's file is refused: it is too long, or its text has a fault
+pub data IsRefusedJob (told : Holdings) (file : List ℕ) (status : ℕ) (report : List ℕ) : Type 0 where
+  long : IsLonger told file job_cap → status ≡ 10 → report ≡ too_long file → IsRefusedJob told file status report
+  faulty : (bytes : List ℕ) (e : TextFault) → Gave told file job_cap bytes → IsTextFault bytes e → status ≡ fault_status e → report ≡ fault_line file e → IsRefusedJob told file status report
+
+-- the file gave a typed job within the limits
+pub record GaveJob (told : Holdings) (file : List ℕ) (job : Job) : Type 0 where
+  pub bytes : List ℕ
+  pub gave : Gave told file job_cap bytes
+  pub spells : IsTypedJobText bytes job
+
+-- each of these files gave one
+abbrev pub GaveJobs : Holdings → List (List ℕ) → Type 0
+GaveJobs told files = Each (λ (file : List ℕ). (job : Job) × GaveJob told file job) files
