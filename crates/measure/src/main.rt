@@ -5,12 +5,14 @@
 
 mod classes;
 mod making;
+mod playing;
 mod reading;
 mod tidying;
 mod trees;
 mod typing;
 
 use classes::Ties;
+use playing::Tables;
 use std::alloc::Global;
 use std::io::Write;
 use std::rt::Runtime;
@@ -21,6 +23,7 @@ const USAGE: &str = "measure reading SIZE [TIMES]
 measure typing UPDATES TIMES
 measure tidying TERMS COMPARISONS TIMES
 measure chain-ties|pair-ties EQUALITIES TIMES
+measure one-table-calls|joined-calls CALLS
 measure star|chain|ring|dense|pair|four TIMES";
 
 /// What is to be measured.
@@ -35,6 +38,8 @@ enum Task {
     Tidying(u32, u32, u32),
     /// The classes of a term of so many equalities, so many times.
     Classes(Ties, u32, u32),
+    /// The playing of so many calls.
+    Playing(Tables, u32),
     /// The listing of link trees, so many times.
     Trees(Shape, u32),
 }
@@ -63,6 +68,8 @@ fn task_of(name: &str, numbers: &[u32]) -> Option<Task> {
         }
         ("chain-ties", [count, times]) => Some(Task::Classes(Ties::Chain, *count, *times)),
         ("pair-ties", [count, times]) => Some(Task::Classes(Ties::Pairs, *count, *times)),
+        ("one-table-calls", [count]) => Some(Task::Playing(Tables::One, *count)),
+        ("joined-calls", [count]) => Some(Task::Playing(Tables::Joined, *count)),
         (_, [times]) => Some(Task::Trees(shape_of(name)?, *times)),
         _ => None,
     }
@@ -95,6 +102,7 @@ fn main(rt: HostRuntime) -> io::Result<()> {
             tidying::time(&rt, count, comparisons, times)
         }
         Some(Task::Classes(ties, count, times)) => classes::time(&rt, ties, count, times),
+        Some(Task::Playing(tables, count)) => playing::time(&rt, tables, count),
         Some(Task::Trees(shape, times)) => trees::time(&rt, shape, times),
         None => println!(rt; "{USAGE}"),
     }
