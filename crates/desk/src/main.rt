@@ -1,10 +1,11 @@
 //! The program `desk`: the desk over the system's files and streams, and a store in memory.
 #![tactic(auto)]
 
+use mig_base::{Seq, Word};
 use mig_cli::desk;
 use mig_io::{RealFiles, RealSink, emit};
-use mig_schema::{Seq, Word};
-use mig_stores::VecStore;
+use mig_messages::{Status, no_memory, unbuilt_words};
+use mig_storage::VecStore;
 use std::alloc::Global;
 use std::process::ExitCode;
 use std::rt::Runtime;
@@ -21,11 +22,11 @@ fn words_of<R: Runtime + Alloc<A = Global>>(rt: &R) -> io::Result<Vec<Word>> {
 }
 
 /// Why there are no words: memory ran out, or one is not UTF-8.
-fn refusal_of(error: &io::Error) -> (u8, &'static str) {
+fn refusal_of(error: &io::Error) -> (Status, &'static str) {
     if error.kind() == io::ErrorKind::OutOfMemory {
-        (8, "out of memory\n")
+        (Status::Memory, no_memory())
     } else {
-        (1, "words: not built\n")
+        (Status::Words, unbuilt_words())
     }
 }
 
@@ -48,8 +49,8 @@ fn main(rt: HostRuntime) -> io::Result<ExitCode> {
         Err(error) => {
             let (status, line) = refusal_of(&error);
             match emit(&mut err, line.as_bytes()) {
-                Ok(()) => status,
-                Err(_) => 7,
+                Ok(()) => status.number(),
+                Err(_) => Status::Sink.number(),
             }
         }
     };

@@ -6,8 +6,8 @@ ghost use Rattle.mig_dimacs.specs.Texts.{IsRefusal};
 ghost use Rattle.mig_dimacs.specs.Words.{pieces_of};
 ghost use Rattle.dimacs.specs.declared.form.Form.TheVariants as at;
 
+use mig_base::Txt;
 use mig_dimacs::{ReadError, answer_cnf, answer_wcnf};
-use mig_schema::Txt;
 use std::alloc::Global;
 use std::rt::Runtime;
 use std::{env, io};

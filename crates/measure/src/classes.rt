@@ -1,7 +1,8 @@
 // How long it takes to find the classes of a term of so many equalities over 16 variables.
 use mig_algebra::{Atom, Lit, Term};
+use mig_base::Seq;
 use mig_classes::closure;
-use mig_schema::{Op, Seq};
+use mig_schema::Op;
 use std::alloc::{AllocError, Global};
 use std::io;
 use std::rt::Runtime;

@@ -1,5 +1,5 @@
 // Plain jobs of a chosen size: 32 functions, with comments as filling.
-use mig_schema::{Bytes, Seq};
+use mig_base::{Bytes, Seq};
 use std::alloc::{AllocError, Global};
 
 const HEAD: &str =

@@ -1,8 +1,8 @@
 // How long files of calls take to be played over a store in memory.
-use mig_playing::play;
+use mig_base::{Bytes, Seq, Txt};
 use mig_printing::{put, put_number};
-use mig_schema::{Bytes, Seq, Txt};
-use mig_stores::VecStore;
+use mig_storage::VecStore;
+use mig_store::play;
 use mig_syntax::read_job;
 use std::alloc::{AllocError, Global};
 use std::io;

@@ -1,6 +1,6 @@
 // How long plain jobs take to be read.
 use crate::making::job_of;
-use mig_schema::Bytes;
+use mig_base::Bytes;
 use mig_syntax::read_job;
 use std::alloc::Global;
 use std::io;

@@ -1,6 +1,7 @@
 // How long expressions take to be tidied: sums of terms over 16 variables, each of so many comparisons.
 use mig_algebra::{Atom, Expr, Lit, Term, Var, is_scoped, tidy};
-use mig_schema::{Op, Seq, Side};
+use mig_base::Seq;
+use mig_schema::{Op, Side};
 use std::alloc::{AllocError, Global};
 use std::io;
 use std::rt::Runtime;

@@ -1,5 +1,6 @@
 // How long the link trees of the largest schemas take to be listed: 16 tables and 32 links.
-use mig_schema::{ColId, ColSets, Column, Kind, Link, Schema, Seq, Table};
+use mig_base::Seq;
+use mig_schema::{ColId, ColSets, Column, Kind, Link, Schema, Table};
 use mig_trees::trees;
 use std::alloc::{AllocError, Global};
 use std::io;

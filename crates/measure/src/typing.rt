@@ -1,7 +1,8 @@
 // How long the largest program takes to be typed: 32 updates of four inserts, each of 45 values into a join of four tables of 12 columns.
+use mig_base::{Seq, Txt};
 use mig_schema::{
-    Assign, Body, ColId, Column, Function, Join, Joined, Kind, Param, Program, Scalar, Schema, Seq,
-    Side, Stmt, Table, Txt,
+    Assign, Body, ColId, Column, Function, Join, Joined, Kind, Param, Program, Scalar, Schema,
+    Side, Stmt, Table,
 };
 use mig_typing::{check_program, check_schema};
 use std::alloc::{AllocError, Global};

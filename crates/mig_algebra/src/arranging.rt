@@ -6,7 +6,7 @@ ghost use Rattle.mig_algebra.specs.Rename as rename;
 
 use crate::atoms::{Atom, Var};
 use crate::orders::var_order;
-use mig_schema::{Exact, Seq};
+use mig_base::{Exact, Seq};
 use std::alloc::{AllocError, Global};
 use std::cmp::Ordering;
 

@@ -1,5 +1,6 @@
 // Variables that stand for rows, and the single values that expressions speak of.
-use mig_schema::{Exact, Side, Txt};
+use mig_base::{Exact, Txt};
+use mig_schema::Side;
 use std::alloc::{AllocError, Global};
 
 /// A variable: it ranges over the rows that the table of this side has after `stage` statements of the side's function.

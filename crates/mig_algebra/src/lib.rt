@@ -11,10 +11,6 @@ mod orienting;
 mod renaming;
 mod scoping;
 mod terms;
-#[cfg(test)]
-mod tests;
-#[cfg(test)]
-mod tidy_tests;
 mod tidying;
 
 pub use atoms::{Atom, Var};

@@ -2,7 +2,8 @@
 ghost use Rattle.std.specs.Prelude.{◌≡◌, ◌↔◌, IsTrue, IfOk};
 
 use crate::atoms::{Atom, Var};
-use mig_schema::{Exact, Op, Seq};
+use mig_base::{Exact, Seq};
+use mig_schema::Op;
 use std::alloc::{AllocError, Global};
 
 /// A body: variables that it binds, and what their rows have to meet. Its own variables have the numbers after those of what it stands in.

@@ -5,7 +5,7 @@ ghost use Rattle.mig_algebra.specs.Rename.{lit_with};
 use crate::atoms::Atom;
 use crate::literals::{Inner, Lit};
 use crate::orienting::oriented;
-use mig_schema::{Exact, Seq};
+use mig_base::{Exact, Seq};
 use std::alloc::{AllocError, Global};
 
 /// What is written for atoms, and for the variables that an `Other` names.

@@ -1,7 +1,7 @@
 // Terms and sums of terms, which stand for bags of rows, and classes of equal values.
 use crate::atoms::{Atom, Var};
 use crate::literals::Lit;
-use mig_schema::{Exact, Seq};
+use mig_base::{Exact, Seq};
 use std::alloc::{AllocError, Global};
 
 /// A bag of rows: for each choice of rows for the variables that meets the literals, the row of the head's values.

@@ -17,7 +17,7 @@ use crate::literals::{Inner, Lit};
 use crate::orders::{lit_order, term_order};
 use crate::orienting::oriented;
 use crate::terms::{Expr, Term};
-use mig_schema::Seq;
+use mig_base::Seq;
 use std::alloc::{AllocError, Global};
 
 /// The literals in order, equal ones kept once.

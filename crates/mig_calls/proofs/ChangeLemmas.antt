@@ -15,8 +15,8 @@ use Rattle.mig_meaning.specs.Lists.{AllDifferent, Each, has}
 use Rattle.mig_meaning.specs.Rows.{rows_of}
 use Rattle.mig_meaning.proofs.Maps.{any-map}
 use Rattle.mig_meaning.proofs.Within.{each-weaker}
-use Rattle.mig_stores.specs.Changes.{changed_at, removed, written, has_id}
-use Rattle.mig_stores.proofs.Numbered.{changed-set}
+use Rattle.mig_storage.specs.Changes.{changed_at, removed, written, has_id}
+use Rattle.mig_storage.proofs.Numbered.{changed-set}
 
 -- ---- ids that stand once
 pub same-bool : (b e : Bool) → (b ≡ true → e ≡ true) → (e ≡ true → b ≡ true) → b ≡ e

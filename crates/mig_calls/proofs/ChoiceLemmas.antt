@@ -11,7 +11,7 @@ use Rattle.mig_meaning.specs.declared.states.Placed.{Placed}
 use Rattle.mig_meaning.specs.Lists.{Each, place}
 use Rattle.mig_meaning.specs.Rows.{JoinRow, column_in, no_row, row_in, value_at}
 use Rattle.mig_meaning.specs.Values.{no_value, of_kind}
-use Rattle.mig_stores.specs.Layout.{Layout, kinds_at, kind_at, of_kinds}
+use Rattle.mig_storage.specs.Layout.{Layout, kinds_at, kind_at, of_kinds}
 use Rattle.mig_calls.specs.Fits.{JoinedFits, ChoiceFits}
 
 pub each-item : {X : Type 0} (P : X → Type 0) (xs : List X) (i : ℕ) (x : X) → Each P xs → i < length xs → x ≡ get_or xs i x → P x

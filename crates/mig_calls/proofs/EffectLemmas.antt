@@ -3,7 +3,7 @@ use Rattle.std.proofs.Common.{◌≡◌, ◌≢◌, ℕ, zero, suc, ◌+◌, ◌
 use Rattle.std.specs.Prelude.{filter, ◌==◌, ◌||◌}
 use Rattle.std.specs.List.{list_any}
 use Rattle.std.proofs.lemmas.Bool.{eqb-true, eq-eqb, ne_eqb, or_parts, or_left, or_right, cases_eq}
-use Rattle.mig_schema.specs.Lists.{numbered}
+use Rattle.mig_base.specs.Lists.{numbered}
 use Rattle.mig_schema.specs.declared.tables.ColId.{ColId}
 use Rattle.mig_schema.specs.declared.tables.Schema.{Schema}
 use Rattle.mig_schema.specs.declared.programs.Assign.{Assign}
@@ -22,8 +22,8 @@ use Rattle.mig_meaning.specs.Effect.{new_values, with_rows, takes_part, without_
 use Rattle.mig_meaning.specs.Lists.{AllDifferent, Each, In, has, product}
 use Rattle.mig_meaning.specs.Rows.{JoinRow, join_rows, meets, row_in, rows_of}
 use Rattle.mig_meaning.proofs.Within.{each-weaker, each-filter, each-flat_map, each-map}
-use Rattle.mig_stores.specs.Changes.{changed_at, removed, written, has_id}
-use Rattle.mig_stores.specs.Layout.{Layout}
+use Rattle.mig_storage.specs.Changes.{changed_at, removed, written, has_id}
+use Rattle.mig_storage.specs.Layout.{Layout}
 use Rattle.mig_calls.specs.Fits.{AllJoinedFit, JoinFits}
 use Rattle.mig_calls.specs.Making.{AreThere, removed_all, written_all, without_each}
 use Rattle.mig_calls.specs.Rows.{rows_added}

@@ -2,7 +2,7 @@
 use Rattle.std.proofs.Common.{◌≡◌, ℕ, zero, suc, ◌+◌, ◌<◌, Bool, true, false, cond, List, [], ◌∷◌, map, get_or, length, refl, arith}
 use Rattle.std.specs.Prelude.{nat_lt}
 use Rattle.std.proofs.lemmas.Bool.{and_parts, not-false, ltb-true}
-use Rattle.mig_schema.specs.Lists.{numbered}
+use Rattle.mig_base.specs.Lists.{numbered}
 use Rattle.mig_schema.specs.declared.tables.ColId.{ColId}
 use Rattle.mig_schema.specs.declared.tables.Column.{Column}
 use Rattle.mig_schema.specs.declared.tables.Kind.{Kind}
@@ -25,7 +25,7 @@ use Rattle.mig_meaning.specs.Effect.{class_value, new_values}
 use Rattle.mig_meaning.specs.Lists.{Each}
 use Rattle.mig_meaning.specs.States.{label_fits}
 use Rattle.mig_meaning.specs.Values.{no_value, of_kind}
-use Rattle.mig_stores.specs.Layout.{IsShort}
+use Rattle.mig_storage.specs.Layout.{IsShort}
 use Rattle.mig_calls.specs.Calling.{IsShortScalar}
 
 -- ---- kinds

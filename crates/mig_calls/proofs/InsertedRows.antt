@@ -13,8 +13,8 @@ use Rattle.mig_meaning.specs.Effect.{new_values, with_row, with_rows}
 use Rattle.mig_meaning.specs.Lists.{Each, In}
 use Rattle.mig_meaning.specs.Rows.{rows_of}
 use Rattle.mig_meaning.proofs.Within.{each-weaker}
-use Rattle.mig_stores.proofs.Numbered.{changed-set}
-use Rattle.mig_calls.proofs.Lists.{in-front}
+use Rattle.mig_storage.proofs.Numbered.{changed-set}
+use Rattle.mig_meaning.proofs.Lists.{in-front}
 
 -- ---- rows that an insert adds
 abbrev new_row : State → List Value → Placed

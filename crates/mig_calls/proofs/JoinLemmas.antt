@@ -18,8 +18,9 @@ use Rattle.mig_meaning.specs.Conditions.{Given, cases_true, met_rows}
 use Rattle.mig_meaning.specs.Lists.{Each, In, place, product}
 use Rattle.mig_meaning.specs.Rows.{JoinRow, column_in, meets, no_row, rows_of, value_at}
 use Rattle.mig_meaning.specs.Values.{value_eq}
+use Rattle.mig_meaning.proofs.Lists.{in-front, in-behind}
 use Rattle.mig_meaning.proofs.Bags.{value_eq-true, value_eq-refl}
-use Rattle.mig_stores.specs.Layout.{Layout}
+use Rattle.mig_storage.specs.Layout.{Layout}
 use Rattle.mig_calls.specs.Fits.{JoinedFits, AllJoinedFit, JoinFits}
 use Rattle.mig_calls.specs.Joining.{partners, grown, grown_all, IsCover}
 use Rattle.mig_calls.proofs.ChangeLemmas.{same-bool}
@@ -173,15 +174,6 @@ grown-from layout s join rows fits =
     ∙ ap (filter (meets (tables_of join) join.more)) (begun-with (product (map (rows_of s) (map (λ (m : Joined). m.table) join.more))) rows)
 
 -- ---- rows that cover the first table's
-in-left : {X : Type 0} (x : X) (xs ys : List X) → In x xs → In x (xs ++ ys)
-in-left x [] ys h = absurd h
-in-left x (y ∷ xs) ys (inl e) = inl e
-in-left x (y ∷ xs) ys (inr h) = inr (in-left x xs ys h)
-
-in-right : {X : Type 0} (x : X) (xs ys : List X) → In x ys → In x (xs ++ ys)
-in-right x [] ys h = h
-in-right x (y ∷ xs) ys h = inr (in-right x xs ys h)
-
 -- no choice with this row passes
 none-pass : (T : JoinRow → Bool) (p : Placed) (P : List JoinRow) → ((d : JoinRow) → In d P → T (p ∷ d) ≡ true → ⊥) → filter T (map (λ d. p ∷ d) P) ≡ []
 none-pass T p [] h = refl
@@ -198,10 +190,10 @@ in-before p d (e ∷ P) (inr h) = inr (in-before p d P h)
 
 covered : (T : JoinRow → Bool) (test : Placed → Bool) (P : List JoinRow) (R : List Placed) → ((p : Placed) (d : JoinRow) → In (p ∷ d) (flat_map (λ q. map (λ e. q ∷ e) P) R) → T (p ∷ d) ≡ true → test p ≡ true) → filter T (flat_map (λ p. map (λ d. p ∷ d) P) (filter test R)) ≡ filter T (flat_map (λ p. map (λ d. p ∷ d) P) R)
 covered T test P [] h = refl
-covered T test P (p ∷ R) h = go (test p) refl (covered T test P R (λ q d k. h q d (in-right (q ∷ d) (map (λ e. p ∷ e) P) (flat_map (λ q. map (λ e. q ∷ e) P) R) k)))
+covered T test P (p ∷ R) h = go (test p) refl (covered T test P R (λ q d k. h q d (in-behind (q ∷ d) (map (λ e. p ∷ e) P) (flat_map (λ q. map (λ e. q ∷ e) P) R) k)))
   where
     here : (b : Bool) → test p ≡ b → b ≡ false → (d : JoinRow) → In d P → T (p ∷ d) ≡ true → ⊥
-    here b e n d k t = let y : true ≡ false = sym (h p d (in-left (p ∷ d) (map (λ e. p ∷ e) P) (flat_map (λ q. map (λ e. q ∷ e) P) R) (in-before p d P k)) t) ∙ (e ∙ n) in cc
+    here b e n d k t = let y : true ≡ false = sym (h p d (in-front (p ∷ d) (map (λ e. p ∷ e) P) (flat_map (λ q. map (λ e. q ∷ e) P) R) (in-before p d P k)) t) ∙ (e ∙ n) in cc
 
     go : (b : Bool) → test p ≡ b → filter T (flat_map (λ p. map (λ d. p ∷ d) P) (filter test R)) ≡ filter T (flat_map (λ p. map (λ d. p ∷ d) P) R)
         → filter T (flat_map (λ p. map (λ d. p ∷ d) P) (cond b (p ∷ filter test R) (filter test R))) ≡ filter T (map (λ d. p ∷ d) P ++ flat_map (λ p. map (λ d. p ∷ d) P) R)

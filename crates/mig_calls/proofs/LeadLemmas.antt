@@ -18,13 +18,13 @@ use Rattle.mig_meaning.specs.Values.{of_kind, value_eq}
 use Rattle.mig_meaning.proofs.Bags.{value_eq-refl, value_eq-true}
 use Rattle.mig_meaning.proofs.StateLaw.{each-in}
 use Rattle.mig_meaning.proofs.Within.{each-flat_map, each-map}
-use Rattle.mig_stores.specs.Layout.{Layout, kind_at, kinds_at, of_kinds}
+use Rattle.mig_storage.specs.Layout.{Layout, kind_at, kinds_at, of_kinds}
 use Rattle.mig_calls.specs.Fits.{AllJoinedFit, IsColumn, JoinedFits}
 use Rattle.mig_calls.specs.Joining.{IsCover}
 use Rattle.mig_calls.specs.Leading.{IsCoverAt, is_met_by, is_one_of, has_one_of}
 use Rattle.mig_calls.proofs.ChoiceLemmas.{of_kinds-at, row-later}
 use Rattle.mig_calls.proofs.EffectLemmas.{filter-agree}
-use Rattle.mig_calls.proofs.Lists.{each-by, in-passing}
+use Rattle.mig_meaning.proofs.Lists.{each-by, in-passing}
 
 -- ---- the ends of a list
 pub first-of : {X : Type 0} (x : X) (xs : List X) → 1 ≤ length xs → x ≡ get_or xs 0 x → x ∷ take (length xs - 1) (drop 1 xs) ≡ xs

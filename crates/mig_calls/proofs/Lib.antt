@@ -4,7 +4,6 @@ pub mod PinLemmas
 pub mod EffectLemmas
 pub mod ChoiceLemmas
 pub mod ValueOrder
-pub mod Lists
 pub mod OrderLemmas
 pub mod LeadLemmas
 pub mod GivenLemmas

@@ -17,12 +17,12 @@ use Rattle.mig_meaning.specs.States.{Rising}
 use Rattle.mig_meaning.specs.Values.{value_eq}
 use Rattle.mig_meaning.proofs.StateLaw.{each-in}
 use Rattle.mig_meaning.proofs.Within.{each-weaker, each-filter}
-use Rattle.mig_stores.specs.Changes.{has_id}
-use Rattle.mig_stores.specs.Layout.{Layout, layout_of}
-use Rattle.mig_stores.specs.Meaning.{FitsLayout}
+use Rattle.mig_storage.specs.Changes.{has_id}
+use Rattle.mig_storage.specs.Layout.{Layout, layout_of}
+use Rattle.mig_storage.specs.Meaning.{FitsLayout}
 use Rattle.mig_calls.specs.Leading.{has_one_of}
 use Rattle.mig_calls.proofs.EffectLemmas.{in-has}
-use Rattle.mig_calls.proofs.Lists.{all-each, from-passing, in-behind, in-either, in-front, in-passing}
+use Rattle.mig_meaning.proofs.Lists.{all-each, from-passing, in-behind, in-either, in-front, in-passing}
 
 -- ---- rows in order
 abbrev pub same_id : Placed → Placed → Bool

@@ -15,7 +15,7 @@ use Rattle.mig_meaning.specs.Conditions.{Given, scalar_value, item_value, cmp_tr
 use Rattle.mig_meaning.specs.Lists.{Each}
 use Rattle.mig_meaning.specs.Rows.{JoinRow, column_in, row_in, rows_of, value_at}
 use Rattle.mig_meaning.specs.Values.{value_eq, compares, of_kind}
-use Rattle.mig_stores.specs.Layout.{Layout, kinds_at, kind_at}
+use Rattle.mig_storage.specs.Layout.{Layout, kinds_at, kind_at}
 use Rattle.mig_calls.specs.Fits.{SidesFit, CasesFit, ValueFits}
 use Rattle.mig_calls.specs.Joining.{IsCover}
 use Rattle.mig_calls.specs.Leading.{IsCoverAt}

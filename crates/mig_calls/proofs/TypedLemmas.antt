@@ -34,12 +34,12 @@ use Rattle.mig_meaning.specs.Values.{of_kind}
 use Rattle.mig_meaning.proofs.StateLaw.{each-in, empty-state}
 use Rattle.mig_meaning.proofs.TypedWrites.{state-law}
 use Rattle.mig_meaning.proofs.Within.{each-weaker}
-use Rattle.mig_stores.specs.Layout.{Layout, IsShort, layout_of, kinds_at, kind_at, of_kinds}
-use Rattle.mig_stores.proofs.StateLemmas.{row_fits-kinds, kinds_at-schema}
+use Rattle.mig_storage.specs.Layout.{Layout, IsShort, layout_of, kinds_at, kind_at, of_kinds}
+use Rattle.mig_storage.proofs.StateLemmas.{row_fits-kinds, kinds_at-schema}
 use Rattle.mig_calls.specs.Calling.{HasShortTexts, IsShortScalar}
 use Rattle.mig_calls.specs.Fits.{RowFits, IsColumn, AllJoinedFit, JoinFits, SidesFit, CasesFit, StmtFits, BodyFits}
 use Rattle.mig_calls.proofs.ChangeLemmas.{same-bool}
-use Rattle.mig_calls.proofs.Lists.{by-recursion, each-back, each-both, each-flat, each-front, each-none, each-true, each-unmapped}
+use Rattle.mig_meaning.proofs.Lists.{by-recursion, each-back, each-both, each-flat, each-front, each-none, each-true, each-unmapped}
 use Rattle.mig_calls.proofs.GivenLemmas.{same-kinds, scalar-fits, short-scalar, short-values}
 use Rattle.mig_calls.proofs.InsertedRows.{each-by-in, row-in}
 

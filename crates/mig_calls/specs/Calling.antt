@@ -13,7 +13,7 @@ use Rattle.mig_meaning.specs.declared.calling.Reply.{Reply}
 use Rattle.mig_meaning.specs.declared.calling.Reply.TheVariants.{Done, Rows}
 use Rattle.mig_meaning.specs.Conditions.{Given}
 use Rattle.mig_meaning.specs.Lists.{Each}
-use Rattle.mig_stores.specs.Layout.{IsShort}
+use Rattle.mig_storage.specs.Layout.{IsShort}
 
 -- what a call with these arguments and keys is given
 abbrev pub given_by : Args → Keys → Given

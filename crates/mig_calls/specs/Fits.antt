@@ -20,7 +20,7 @@ use Rattle.mig_meaning.specs.Effect.{new_values}
 use Rattle.mig_meaning.specs.Lists.{Each}
 use Rattle.mig_meaning.specs.Rows.{JoinRow}
 use Rattle.mig_meaning.specs.Values.{of_kind}
-use Rattle.mig_stores.specs.Layout.{Layout, IsShort, kinds_at, kind_at, of_kinds}
+use Rattle.mig_storage.specs.Layout.{Layout, IsShort, kinds_at, kind_at, of_kinds}
 
 -- the values of the new row of table t have its kinds, and short texts
 pub record RowFits (layout : Layout) (schema : Schema) (g : Given) (ms : List Joined) (values : List Assign) (t : ℕ) : Type 0 where

@@ -6,4 +6,3 @@ pub mod Making
 pub mod Order
 pub mod Pins
 pub mod Rows
-pub mod Told

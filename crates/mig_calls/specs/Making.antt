@@ -7,9 +7,9 @@ use Rattle.mig_meaning.specs.declared.states.Placed.{Placed}
 use Rattle.mig_meaning.specs.Effect.{takes_part}
 use Rattle.mig_meaning.specs.Lists.{Each}
 use Rattle.mig_meaning.specs.Rows.{JoinRow, row_in, rows_of}
-use Rattle.mig_stores.specs.Changes.{changed_at, removed, written, has_id}
-use Rattle.mig_stores.specs.Meaning.{Meaning}
-use Rattle.mig_stores.specs.declared.faults.StoreFault.{StoreFault}
+use Rattle.mig_storage.specs.Changes.{changed_at, removed, written, has_id}
+use Rattle.mig_storage.specs.Meaning.{Meaning}
+use Rattle.mig_storage.specs.declared.faults.StoreFault.{StoreFault}
 
 -- After Ok the told state is the changed one; after a fault some of the changes may be made. The transaction and the layout stay.
 pub record Makes {T : Type 0} (old new : Meaning) (change : State → State) (answer : Result T StoreFault) : Type 0 where

@@ -8,24 +8,20 @@ ghost use Rattle.mig_meaning.specs.Lists.{Each, In};
 ghost use Rattle.mig_meaning.specs.Rows as placed;
 ghost use Rattle.mig_meaning.specs.States.{Rising};
 ghost use Rattle.mig_meaning.specs.Values as plain;
-ghost use Rattle.mig_stores.specs.Changes.{has_id};
-ghost use Rattle.mig_stores.specs.Layout.{kind_at, kinds_at, of_kinds};
-ghost use Rattle.mig_stores.specs.Meaning.{IsSound, Keeps};
+ghost use Rattle.mig_storage.specs.Changes.{has_id};
+ghost use Rattle.mig_storage.specs.Layout.{kind_at, kinds_at, of_kinds};
+ghost use Rattle.mig_storage.specs.Meaning.{IsSound, Keeps};
 ghost use Rattle.mig_calls.specs.Leading.{AreUnequal, is_one_of, has_one_of};
 
-use crate::conditions::value_at;
 use crate::order::value_order;
-use mig_meaning::Placed;
-use mig_schema::{Seq, Value};
-use mig_stores::{Store, StoreFault, value_eq};
+use mig_base::Seq;
+use mig_meaning::{Placed, value_at, value_eq};
+use mig_schema::Value;
+use mig_storage::{Store, StoreFault};
 use std::alloc::{AllocError, Global};
 
 /// The values of a column in these rows, equal ones once.
-pub(crate) fn values_at(
-    alloc: Global,
-    rows: &[Placed],
-    column: u32,
-) -> Result<Vec<Value>, AllocError>
+pub fn values_at(alloc: Global, rows: &[Placed], column: u32) -> Result<Vec<Value>, AllocError>
     ensures unequal { IfOk result (λ vs. AreUnequal vs.items) }
     ensures members { IfOk result (λ vs. (v : PlainValue) → is_one_of vs.items v ≡ list_any (λ (p : PlacedRow). plain.value_eq v (placed.value_at p column)) rows.now) }
 {
@@ -39,7 +35,7 @@ pub(crate) fn values_at(
 }
 
 /// These rows in order of their ids, those of one id once.
-pub(crate) fn in_order(rows: Vec<Placed>) -> Vec<Placed>
+pub fn in_order(rows: Vec<Placed>) -> Vec<Placed>
     ensures rising { Rising result.items }
     ensures found { Each (λ (p : PlacedRow). In p rows.items) result.items }
     ensures ids { (id : ℕ) → has_id id result.items ≡ has_id id rows.items }

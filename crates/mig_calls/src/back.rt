@@ -7,15 +7,16 @@ ghost use Rattle.mig_meaning.specs.declared.states.State.{State};
 ghost use Rattle.mig_meaning.specs.Conditions.{Given};
 ghost use Rattle.mig_meaning.specs.Lists.{Each};
 ghost use Rattle.mig_meaning.specs.Rows as placed;
-ghost use Rattle.mig_stores.specs.Layout.{kind_at, kinds_at, of_kinds};
-ghost use Rattle.mig_stores.specs.Meaning.{IsSound, Keeps};
+ghost use Rattle.mig_storage.specs.Layout.{kind_at, kinds_at, of_kinds};
+ghost use Rattle.mig_storage.specs.Meaning.{IsSound, Keeps};
 ghost use Rattle.mig_calls.specs.Fits.{IsColumn, JoinFits};
 ghost use Rattle.mig_calls.specs.Leading.{IsCoverAt, is_met_by};
 
 use crate::asked::{rows_with, values_at};
+use mig_base::Seq;
 use mig_meaning::Placed;
-use mig_schema::{Join, Joined, Seq};
-use mig_stores::{Store, StoreFault};
+use mig_schema::{Join, Joined};
+use mig_storage::{Store, StoreFault};
 use std::alloc::Global;
 
 /// The rows of the earlier table of an equality that meet it with one of these rows of the joined table.

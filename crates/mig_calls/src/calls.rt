@@ -6,20 +6,19 @@ ghost use Rattle.mig_meaning.specs.Calls.{IsGivenTo};
 ghost use Rattle.mig_meaning.specs.Effect as spec;
 ghost use Rattle.mig_meaning.specs.States.{labels_fit};
 ghost use Rattle.mig_meaning.specs.Told.{reply_told};
-ghost use Rattle.mig_stores.specs.Layout.{layout_of};
-ghost use Rattle.mig_stores.specs.Meaning.{IsAtRest, IsSound};
+ghost use Rattle.mig_storage.specs.Layout.{layout_of};
+ghost use Rattle.mig_storage.specs.Meaning.{IsAtRest, IsSound};
 ghost use Rattle.mig_calls.specs.Calling.{HasShortTexts, IsReplyOf, given_by};
 ghost use Rattle.mig_calls.specs.Fits.{BodyFits};
 ghost use Rattle.mig_calls.specs.Making.{Makes};
 ghost use Rattle.mig_calls.specs.Rows.{rows_added_by};
-ghost use Rattle.mig_calls.specs.Told.{given_told};
+ghost use Rattle.mig_meaning.specs.Told.{given_told};
 
-use crate::given::Given;
 use crate::queries::answer;
 use crate::statements::update;
-use mig_meaning::{Args, Keys, Reply};
+use mig_meaning::{Args, Given, Keys, Reply};
 use mig_schema::{Body, Function, Schema};
-use mig_stores::{Store, StoreFault};
+use mig_storage::{Store, StoreFault};
 use std::alloc::Global;
 
 /// Makes the changes of an update, or finds the answer of a query, within a transaction.

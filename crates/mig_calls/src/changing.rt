@@ -5,15 +5,16 @@ ghost use Rattle.mig_meaning.specs.declared.states.State.{State};
 ghost use Rattle.mig_meaning.specs.Lists.{AllDifferent, Each, has};
 ghost use Rattle.mig_meaning.specs.Rows.{row_in, rows_of};
 ghost use Rattle.mig_meaning.specs.Values.{of_kind};
-ghost use Rattle.mig_stores.specs.Changes.{has_id};
-ghost use Rattle.mig_stores.specs.Layout.{IsShort, kind_at};
-ghost use Rattle.mig_stores.specs.Meaning.{IsSound};
+ghost use Rattle.mig_storage.specs.Changes.{has_id};
+ghost use Rattle.mig_storage.specs.Layout.{IsShort, kind_at};
+ghost use Rattle.mig_storage.specs.Meaning.{IsSound};
 ghost use Rattle.mig_calls.specs.Fits.{IsColumn};
 ghost use Rattle.mig_calls.specs.Making.{Makes, removed_all, written_all};
 
-use crate::conditions::{JoinRow, id_in};
-use mig_schema::{ColId, Exact, Value};
-use mig_stores::{Store, StoreFault};
+use mig_base::Exact;
+use mig_meaning::{JoinRow, id_in};
+use mig_schema::{ColId, Value};
+use mig_storage::{Store, StoreFault};
 use std::alloc::{AllocError, Global};
 
 /// The ids of the rows of table t in these join rows, each once.
@@ -28,7 +29,7 @@ pub(crate) fn ids_in(
 {
     let mut ids = Vec::new(alloc);
     for row in met {
-        ids.push(id_in(tables, row.as_slice(), t))?;
+        ids.push(id_in(tables, row.as_slice(), t as usize))?;
     }
     ids.sort_unstable();
     ids.dedup();

@@ -1,31 +1,18 @@
 // The rows of a join, table after table.
 ghost use Rattle.std.specs.Prelude.{◌≡◌, ℕ, ◌<◌, ◌∷◌, ◌++◌, [], true, false, map, Option, Some, IfOk, OnOk};
-ghost use Rattle.mig_schema.specs.Joins as joins;
 ghost use Rattle.mig_meaning.specs.declared.states.Placed.{Placed as PlacedRow};
 ghost use Rattle.mig_meaning.specs.declared.states.State.{State};
 ghost use Rattle.mig_meaning.specs.Lists.{Each};
-ghost use Rattle.mig_stores.specs.Layout.{kinds_at, of_kinds};
-ghost use Rattle.mig_stores.specs.Meaning.{IsSound, Keeps};
+ghost use Rattle.mig_storage.specs.Layout.{kinds_at, of_kinds};
+ghost use Rattle.mig_storage.specs.Meaning.{IsSound, Keeps};
 ghost use Rattle.mig_calls.specs.Fits.{ChoiceFits, JoinFits, JoinedFits};
 ghost use Rattle.mig_calls.specs.Joining as spec;
 
-use crate::conditions::{JoinRow, column_in};
-use mig_meaning::Placed;
-use mig_schema::{Exact, Join, Joined, Seq};
-use mig_stores::{Store, StoreFault};
+use mig_base::{Exact, Seq};
+use mig_meaning::{JoinRow, Placed, column_in};
+use mig_schema::{Join, Joined};
+use mig_storage::{Store, StoreFault};
 use std::alloc::{AllocError, Global};
-
-/// The joined tables, in order.
-pub(crate) fn tables_of(alloc: Global, join: &Join) -> Result<Vec<u32>, AllocError>
-    ensures { IfOk result (λ v. v.items ≡ joins.tables_of join.now) }
-{
-    let mut tables = Vec::new(alloc);
-    tables.push(join.first)?;
-    for joined in join.more.as_slice() {
-        tables.push(joined.table)?;
-    }
-    Ok(tables)
-}
 
 /// Puts the choice, with each of these rows behind it, behind the others.
 fn put_longer(

@@ -2,13 +2,9 @@
 #![tactic(auto)]
 
 mod asked;
-#[cfg(test)]
-mod asked_tests;
 mod back;
 mod calls;
 mod changing;
-mod conditions;
-mod given;
 mod inserting;
 mod joining;
 mod meeting;
@@ -16,8 +12,7 @@ mod order;
 mod pins;
 mod queries;
 mod statements;
-#[cfg(test)]
-mod tests;
 
+pub use asked::{in_order, values_at};
 pub use calls::call;
 pub use order::value_order;

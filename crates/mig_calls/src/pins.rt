@@ -6,19 +6,18 @@ ghost use Rattle.mig_meaning.specs.declared.states.Placed.{Placed as PlacedRow};
 ghost use Rattle.mig_meaning.specs.declared.states.State.{State};
 ghost use Rattle.mig_meaning.specs.Conditions as conditions;
 ghost use Rattle.mig_meaning.specs.Lists.{Each};
-ghost use Rattle.mig_stores.specs.Layout.{kinds_at, of_kinds};
-ghost use Rattle.mig_stores.specs.Meaning.{IsSound, Keeps};
+ghost use Rattle.mig_storage.specs.Layout.{kinds_at, of_kinds};
+ghost use Rattle.mig_storage.specs.Meaning.{IsSound, Keeps};
 ghost use Rattle.mig_calls.specs.Fits.{CasesFit, JoinFits};
 ghost use Rattle.mig_calls.specs.Joining.{IsCover};
 ghost use Rattle.mig_calls.specs.Pins.{CasePins, CasesPin, IsPin};
-ghost use Rattle.mig_calls.specs.Told.{given_told};
+ghost use Rattle.mig_meaning.specs.Told.{given_told};
 
 use crate::back::first_from;
-use crate::given::{Given, scalar_value};
-use crate::joining::tables_of;
-use mig_meaning::Placed;
-use mig_schema::{Cmp, ColId, Cond, Item, Join, Op, Scalar, Seq, Value};
-use mig_stores::{Store, StoreFault};
+use mig_base::Seq;
+use mig_meaning::{Given, Placed, scalar_value};
+use mig_schema::{Cmp, ColId, Cond, Item, Join, Op, Scalar, Value};
+use mig_storage::{Store, StoreFault};
 use std::alloc::{AllocError, Global};
 
 /// A column and the value that is asked of it.
@@ -126,14 +125,17 @@ fn first_pin(
 /// The rows of the first table that may begin a join row which meets the condition.
 ///
 /// Where the condition asks a column to be equal to a value, its table's rows with that value are found, and from them
-/// the rows of the first table that the equalities lead back to. All rows are taken where it asks none.
+/// the rows of the first table that the equalities lead back to. All rows are taken where it asks none. `tables` are those
+/// of the join.
 pub(crate) fn first_rows<S: Store>(
     alloc: Global,
     store: &mut S,
     given: &Given<'_>,
     join: &Join,
+    tables: &[u32],
     cond: &Cond,
 ) -> Result<Seq<Placed>, StoreFault>
+    requires tables { tables.now ≡ joins.tables_of join.now }
     requires join { JoinFits (S.meaning store.old).layout join.now }
     requires cases { CasesFit (S.meaning store.old).layout (given_told given.now) (joins.tables_of join.now) cond.now.cases }
     requires whole { (S.meaning store.old).broken ≡ false }
@@ -142,8 +144,7 @@ pub(crate) fn first_rows<S: Store>(
     ensures kinds { IfOk result (λ rows. Each (λ (p : PlacedRow). of_kinds (kinds_at (S.meaning store.old).layout join.now.first) p.row.values ≡ true) rows) }
     ensures cover { IfOk result (λ rows. (s : State) → (S.meaning store.old).told ≡ Some s → IsCover (given_told given.now) s join.now cond.now.cases rows) }
 {
-    let tables = tables_of(alloc, join)?;
-    match first_pin(alloc, given, tables.as_slice(), cond.cases.as_slice())? {
+    match first_pin(alloc, given, tables, cond.cases.as_slice())? {
         Some(pin) => {
             let at = pin.column;
             let rows = store.matching(alloc, at.table, at.column, &pin.value)?;

@@ -6,21 +6,19 @@ ghost use Rattle.mig_meaning.specs.declared.states.State.{State};
 ghost use Rattle.mig_meaning.specs.Conditions as conditions;
 ghost use Rattle.mig_meaning.specs.Effect as spec;
 ghost use Rattle.mig_meaning.specs.Lists.{Each, total};
-ghost use Rattle.mig_stores.specs.Layout.{IsShort};
-ghost use Rattle.mig_stores.specs.Meaning.{IsSound};
+ghost use Rattle.mig_storage.specs.Layout.{IsShort};
+ghost use Rattle.mig_storage.specs.Meaning.{IsSound};
 ghost use Rattle.mig_calls.specs.Fits.{CasesFit, JoinFits, ListedFit, StmtFits, ValueFits};
 ghost use Rattle.mig_calls.specs.Making.{AreThere, Makes, without_each};
 ghost use Rattle.mig_calls.specs.Rows.{rows_added};
-ghost use Rattle.mig_calls.specs.Told.{given_told};
+ghost use Rattle.mig_meaning.specs.Told.{given_told};
 
 use crate::changing::{ids_in, remove_all, write_all};
-use crate::conditions::JoinRow;
-use crate::given::{Given, scalar_value};
 use crate::inserting::insert_rows;
-use crate::joining::tables_of;
 use crate::meeting::met_rows;
-use mig_schema::{ColId, Cond, Join, Scalar, Schema, Stmt};
-use mig_stores::{Store, StoreFault};
+use mig_meaning::{Given, JoinRow, scalar_value};
+use mig_schema::{ColId, Cond, Join, Scalar, Schema, Stmt, tables_of};
+use mig_storage::{Store, StoreFault};
 use std::alloc::Global;
 
 /// Removes the rows of the listed tables that take part in these join rows.
@@ -63,8 +61,8 @@ fn delete<S: Store>(
     ensures sound { IsSound (S.meaning store.old) (S.meaning store.new) result }
     ensures makes { Makes (S.meaning store.old) (S.meaning store.new) (λ s. spec.without_rows (joins.tables_of join.now) (conditions.met_rows (given_told given.now) s join.now cond.now.cases) listed.now s) result }
 {
-    let met = met_rows(alloc, store, given, join, cond)?;
     let tables = tables_of(alloc, join)?;
+    let met = met_rows(alloc, store, given, join, tables.as_slice(), cond)?;
     remove_listed(alloc, store, tables.as_slice(), met.as_slice(), listed)
 }
 
@@ -87,8 +85,8 @@ fn set<S: Store>(
     ensures sound { IsSound (S.meaning store.old) (S.meaning store.new) result }
     ensures makes { Makes (S.meaning store.old) (S.meaning store.new) (λ s. spec.with_set (joins.tables_of join.now) (conditions.met_rows (given_told given.now) s join.now cond.now.cases) column (conditions.scalar_value (given_told given.now) scalar.now) s) result }
 {
-    let met = met_rows(alloc, store, given, join, cond)?;
     let tables = tables_of(alloc, join)?;
+    let met = met_rows(alloc, store, given, join, tables.as_slice(), cond)?;
     let ids = ids_in(alloc, tables.as_slice(), met.as_slice(), column.table)?;
     let value = scalar_value(alloc, given, scalar)?;
     write_all(alloc, store, column, ids.as_slice(), &value)

@@ -1,7 +1,7 @@
 // What a certificate says: invariants, and for each pair of functions what was shown by which steps.
 use mig_algebra::Invariants;
+use mig_base::{Exact, Seq, Txt};
 use mig_rules::Step;
-use mig_schema::{Exact, Seq, Txt};
 use std::alloc::{AllocError, Global};
 
 /// What an entry shows.

@@ -5,8 +5,8 @@ ghost use Rattle.mig_typing.specs.First.{IsFirst};
 ghost use Rattle.mig_rules.specs.Shaped as shaped;
 ghost use Rattle.mig_certificate.specs.BrokenPlace as spec;
 
-use crate::columns::{kind_of, same_kind};
-use mig_schema::{Body, ColId, Function, Job, Param, Program, Schema, same_text};
+use mig_base::same_text;
+use mig_schema::{Body, ColId, Function, Job, Param, Program, Schema, kind_of, same_kind};
 
 /// Whether two lists of columns, each over its schema, are equally long and have equal kinds at each place.
 pub(crate) fn same_kinds(source: &Schema, target: &Schema, left: &[ColId], right: &[ColId]) -> bool

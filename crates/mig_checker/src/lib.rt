@@ -2,19 +2,12 @@
 #![tactic(auto)]
 
 mod checking;
-mod columns;
 mod entries;
 mod functions;
 mod obligations;
 mod pairs;
 mod places;
-#[cfg(test)]
-mod sample_answers;
-#[cfg(test)]
-mod samples;
 mod shapes;
-#[cfg(test)]
-mod tests;
 mod verdicts;
 mod walking;
 

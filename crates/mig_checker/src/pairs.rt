@@ -10,9 +10,10 @@ ghost use Rattle.mig_checker.specs.Inside as spec;
 use crate::entries::first_in_entry;
 use crate::obligations::{claim_at, obligation_at, obligation_count};
 use crate::places::{InEntry, InPair};
+use mig_base::{Seq, same_text};
 use mig_certificate::{Certificate, Entry, PairProof};
 use mig_rules::{Facts, Pair};
-use mig_schema::{Function, Job, Program, Seq, same_text};
+use mig_schema::{Function, Job, Program};
 use std::alloc::{AllocError, Global};
 
 /// The first place at which entry k is broken.

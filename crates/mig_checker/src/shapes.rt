@@ -1,52 +1,18 @@
 // The first invariant that speaks of what the schemas don't have.
-ghost use Rattle.std.specs.Prelude.{◌≡◌, ◌==◌, ◌∷◌, ◌&&◌, [], map, not};
-ghost use Rattle.std.specs.List.{list_all, list_any};
+ghost use Rattle.std.specs.Prelude.{◌≡◌, ◌∷◌, ◌&&◌, [], not};
+ghost use Rattle.std.specs.List.{list_all};
 ghost use Rattle.mig_schema.specs.Columns as columns;
 ghost use Rattle.mig_schema.specs.Joins as joins;
-ghost use Rattle.mig_schema.specs.Typed as typing;
 ghost use Rattle.mig_typing.specs.First.{IsFirst};
 ghost use Rattle.mig_typing.specs.Broken.{item_has};
-ghost use Rattle.mig_typing.specs.Seen.{twice_among};
 ghost use Rattle.mig_rules.specs.Shaped as spec;
 
-use crate::columns::{has_column, has_table, kind_of, same_kind};
 use crate::functions::same_kinds;
 use mig_algebra::{Invariant, Invariants, View};
-use mig_schema::{ColId, Job, Join, Joined, Schema, Side};
-
-/// Whether one of the joined tables is this one.
-fn is_joined(joined: &[Joined], t: u32) -> bool
-    ensures { result ≡ list_any (λ m. m.table == t) joined.now }
-{
-    joined.iter().any(|m| m.table == t)
-}
-
-/// Whether a table is the first one or one of the joined ones.
-#[tactic(auto, using(crate::proofs::Joined::joined_listed))]
-fn is_in(first: u32, joined: &[Joined], t: u32) -> bool
-    ensures { result ≡ joins.is_among t (first ∷ map (λ m. m.table) joined.now) }
-{
-    first == t || is_joined(joined, t)
-}
-
-/// Whether a table stands twice among joined ones.
-fn joins_twice(joined: &[Joined]) -> bool
-    ensures { result ≡ twice_among joined.now }
-{
-    match joined {
-        [] => false,
-        [m, rest @ ..] => is_joined(rest, m.table) || joins_twice(rest),
-    }
-}
-
-/// Whether a table stands twice in a join.
-#[tactic(auto, using(crate::proofs::Joined::stands_joined))]
-fn stands_twice(join: &Join) -> bool
-    ensures { result ≡ typing.stands_twice (joins.tables_of join.now) }
-{
-    let more = join.more.as_slice();
-    is_joined(more, join.first) || joins_twice(more)
-}
+use mig_schema::{
+    ColId, Job, Join, Joined, Schema, Side, all_join_on, has_column, has_table, is_in_join,
+    joins_twice, kind_of, same_kind,
+};
 
 /// Whether the table of each joined one is in the schema.
 fn has_joined(schema: &Schema, joined: &[Joined]) -> bool
@@ -70,27 +36,6 @@ fn has_columns(schema: &Schema, joined: &[Joined]) -> bool
     joined.iter().all(|m| has_column(schema, m.left) && has_column(schema, m.right))
 }
 
-/// Whether an equality has a column of an earlier table left and one of the joined table right, of one kind.
-fn joins_on(schema: &Schema, first: u32, before: &[Joined], joined: &Joined) -> bool
-    ensures { result ≡ joins.joins_on schema.now (first ∷ map (λ m. m.table) before.now) joined.now }
-{
-    is_in(first, before, joined.left.table)
-        && joined.right.table == joined.table
-        && same_kind(kind_of(schema, joined.left), kind_of(schema, joined.right))
-}
-
-/// Whether each equality of a join does.
-fn all_join_on(schema: &Schema, first: u32, joined: &[Joined]) -> bool
-    ensures { result ≡ joins.all_join_on schema.now (first ∷ []) joined.now }
-{
-    for i in 0..joined.len() {
-        if !joins_on(schema, first, &joined[..i], &joined[i]) {
-            return false;
-        }
-    }
-    true
-}
-
 /// Whether a join's tables and columns are in the schema, no table stands twice, and each equality joins its table to an
 /// earlier one.
 fn join_shaped(schema: &Schema, join: &Join) -> bool
@@ -99,7 +44,7 @@ fn join_shaped(schema: &Schema, join: &Join) -> bool
     let more = join.more.as_slice();
     has_tables(schema, join)
         && has_columns(schema, more)
-        && !stands_twice(join)
+        && !joins_twice(join)
         && all_join_on(schema, join.first, more)
 }
 
@@ -107,7 +52,8 @@ fn join_shaped(schema: &Schema, join: &Join) -> bool
 fn outs_shaped(schema: &Schema, join: &Join, outs: &[ColId]) -> bool
     ensures { result ≡ list_all (λ c. columns.has_column schema.now c && joins.is_among c.table (joins.tables_of join.now)) outs.now }
 {
-    outs.iter().all(|c| has_column(schema, *c) && is_in(join.first, join.more.as_slice(), c.table))
+    outs.iter()
+        .all(|c| has_column(schema, *c) && is_in_join(join, c.table))
 }
 
 /// Whether a view's join is one of the schema, and its outputs are columns of the join's tables.

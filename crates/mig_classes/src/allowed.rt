@@ -5,7 +5,7 @@ ghost use Rattle.mig_algebra.specs.Rename.{lit_all, is_not};
 ghost use Rattle.mig_classes.specs.Substituted as spec;
 
 use mig_algebra::{Atom, Lit, Term};
-use mig_schema::Seq;
+use mig_base::Seq;
 
 /// Whether an atom is no column of a variable, or one of its first `count`.
 fn column_within(var: u32, count: usize, atom: &Atom) -> bool

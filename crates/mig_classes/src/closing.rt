@@ -10,7 +10,8 @@ ghost use Rattle.mig_classes.specs.Forests.{IsForest, LeadsTo, RisesTo, atom_of}
 
 use crate::forests::{root, singles, unite};
 use mig_algebra::{Atom, Classes, Lit, Term, atom_order};
-use mig_schema::{Exact, Op, Seq};
+use mig_base::{Exact, Seq};
+use mig_schema::Op;
 use std::alloc::{AllocError, Global};
 
 /// Puts both sides of an equality at the end; of another literal nothing.

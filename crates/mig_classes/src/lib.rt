@@ -6,8 +6,6 @@ mod closing;
 mod forests;
 mod laws;
 mod substituting;
-#[cfg(test)]
-mod tests;
 
 pub use allowed::may_go;
 pub use closing::closure;

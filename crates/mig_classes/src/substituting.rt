@@ -7,7 +7,7 @@ ghost use Rattle.mig_classes.specs.Forests as forest;
 ghost use Rattle.mig_classes.specs.Substituted as spec;
 
 use mig_algebra::{Atom, Renaming, Term, Var, renamed_atoms, renamed_lits};
-use mig_schema::{Exact, Seq};
+use mig_base::{Exact, Seq};
 use std::alloc::{AllocError, Global};
 
 /// A variable that goes, and the atoms that are written for its columns.

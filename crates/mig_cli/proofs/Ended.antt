@@ -1,137 +1,149 @@
--- From what was due, and was put or cut short, to what the desk promises.
-use Rattle.std.proofs.Common.{◌≡◌, ◌≢◌, ℕ, List, [], ◌++◌, Option, ◌⊎◌, inl, inr, sym, ap, ◌∙◌, subst, arith}
-use Rattle.std.specs.Prelude.{take}
-use Rattle.std.proofs.lemmas.List.{append-nil}
-use Rattle.mig_io.specs.Counts.{Rose}
-use Rattle.mig_stores.specs.Meaning.{Meaning}
-use Rattle.mig_cli.specs.Asked.{AskedFirst, AsksForNoRun, AsksToRun, files_of}
-use Rattle.mig_cli.specs.Jobs.{Holdings}
+-- From what was under way, and was put or cut short, to what the desk promises.
+use Rattle.std.proofs.Common.{◌≡◌, ◌≢◌, ℕ, List, [], ◌∷◌, ◌++◌, ◌⊎◌, inl, inr, sym, ap, ◌∙◌}
+use Rattle.mig_messages.specs.declared.status.Status.{Status}
+use Rattle.mig_messages.specs.declared.status.Status.TheVariants as status
+use Rattle.mig_messages.specs.Statuses.{number}
+use Rattle.mig_messages.specs.Lines.{no_memory}
+use Rattle.mig_messages.proofs.Numbers.{number-one}
+use Rattle.mig_cli.specs.declared.planning.Plan.{Plan}
+use Rattle.mig_cli.specs.Plans.{refusal}
+use Rattle.mig_cli.specs.World.{Inputs, Spares, World}
+use Rattle.mig_cli.specs.Asked.{AsksForNoRun, AsksToRun}
 use Rattle.mig_cli.specs.Desk as spec
-use Rattle.mig_cli.specs.Lines as lines
-use Rattle.mig_cli.specs.CallLines.{store_failed}
 use Rattle.mig_cli.specs.Running as running
-use Rattle.mig_cli.proofs.Statuses.{outcome-known}
+use Rattle.mig_cli.proofs.Statuses.{IsKnown, known-not, outcome-known}
 
--- an outcome has neither 6 nor 9
-far-six : (told : Holdings) (words names : List (List ℕ)) (old new : Meaning) (s : ℕ) (text report : List ℕ) → spec.IsOutcome told words names old new s text report → (s ≢ 6) × (s ≢ 9)
-far-six told words names old new s text report h =
-    elim (outcome-known told words names old new s text report h) [
-      | inl few ↦ ((λ e. absurd (omega (arith, few, e))), (λ e. absurd (omega (arith, few, e))))
-      | inr more ↦ ((λ e. absurd (omega (arith, more, e))), (λ e. absurd (omega (arith, more, e))))
-    ]
+-- ---- outcomes
 
--- an outcome with a status other than 0 left the store alone
-run-spared : (told : Holdings) (file calls : List ℕ) (names : List (List ℕ)) (old new : Meaning) (s : ℕ) (text report : List ℕ) → running.IsRun told file calls names old new s text report → s ≢ 0 → new ≡ old
-run-spared told file calls names old new s text report (running.no_job h names_are same nothing) other = same
-run-spared told file calls names old new s text report (running.long job gave longer names_are same ten nothing line) other = same
-run-spared told file calls names old new s text report (running.no_calls job gave bytes got cause h names_are is nothing line) other = h.alone
-run-spared told file calls names old new s text report (running.played job gave bytes got h names_are is line) other = absurd (other is)
+-- an outcome that isn't done left the store alone
+run-spared : (file calls : List ℕ) (before after : Inputs) (plan : Plan) → running.IsRun file calls before after plan → plan.status ≢ status.Done → Spares before after
+run-spared file calls before after plan (running.no_job h asks same) other = same
+run-spared file calls before after plan (running.long job gave longer asks same is) other = same
+run-spared file calls before after plan (running.no_calls job gave bytes got cause h asks is) other = h.alone
+run-spared file calls before after plan (running.played job gave bytes got text h asks is) other = absurd (other (ap (λ (p : Plan). p.status) is))
 
-outcome-spared : (told : Holdings) (words names : List (List ℕ)) (old new : Meaning) (s : ℕ) (text report : List ℕ) → spec.IsOutcome told words names old new s text report → s ≢ 0 → new ≡ old
-outcome-spared told words names old new s text report (spec.refused e h names_are same one nothing line) other = same
-outcome-spared told words names old new s text report (spec.unbuilt command h none names_are same one nothing line) other = same
-outcome-spared told words names old new s text report (spec.migrated file asks names_are same h) other = same
-outcome-spared told words names old new s text report (spec.run file calls asks h) other = run-spared told file calls names old new s text report h other
+outcome-spared : (words : List (List ℕ)) (before after : Inputs) (plan : Plan) → spec.IsOutcome words before after plan → plan.status ≢ status.Done → Spares before after
+outcome-spared words before after plan (spec.refused e h asks same is) other = same
+outcome-spared words before after plan (spec.unbuilt command h none asks same is) other = same
+outcome-spared words before after plan (spec.migrated file asked asks same h) other = same
+outcome-spared words before after plan (spec.run file calls asked h) other = run-spared file calls before after plan h other
 
--- a store that holds does not fail
-never-failed : (told : Holdings) (words : List (List ℕ)) (old new : Meaning) (file calls : List ℕ) → AsksToRun words file calls → spec.StoreHolds words old new → running.RunFailed told file calls old new → ⊥
-never-failed told words old new file calls asks holds cause =
+-- a store that does not fail has not failed
+never-failed : (words : List (List ℕ)) (before after : World) (file calls : List ℕ) → AsksToRun words file calls → spec.NothingFails words before after → running.RunFailed file calls before.inputs after.inputs → ⊥
+never-failed words before after file calls asks holds cause =
     elim cause.failed.why [
-      | inl rise ↦ (holds file calls asks).0 rise
-      | inr broken ↦ absurd (let odd = sym broken ∙ (holds file calls asks).1 in cc)
+      | inl rise ↦ (holds.store file calls asks).0 rise
+      | inr broken ↦ absurd (let odd = sym broken ∙ (holds.store file calls asks).1 in cc)
     ]
 
-module _ (told : Holdings) (words names : List (List ℕ)) (files files' : ℕ) (old new : Meaning) (planned : ℕ) (text report : List ℕ) where
-  -- nothing is spared but after 0 and 9
-  pub spared : spec.IsDue told words names files files' old new planned text report → planned ≢ 0 → planned ≢ 9 → new ≡ old
-  spared (spec.outcome o) not_zero not_nine = outcome-spared told words names old new planned text report o not_zero
-  spared (spec.unread before file last sound named rose same six nothing line) not_zero not_nine = same
-  spared (spec.failed file calls asks names_are cause nine nothing line) not_zero not_nine = absurd (not_nine nine)
+-- ---- what a status says of the plan
 
-  -- 6 is the status of a file that could not be read
-  pub rose : spec.IsDue told words names files files' old new planned text report → planned ≡ 6 → Rose files files'
-  rose (spec.outcome o) is = absurd ((far-six told words names old new planned text report o).0 is)
-  rose (spec.unread before file last sound named cause same six nothing line) is = cause
-  rose (spec.failed file calls asks names_are cause nine nothing line) is = absurd (omega (arith, nine, is))
+-- two statuses with one number are one
+settle : (ended k : Status) (result : ℕ) → result ≡ number ended → result ≡ number k → ended ≡ k
+settle ended k result is e = number-one ended k (sym is ∙ e)
 
-  -- and 9 that of a store that failed
-  pub failed : spec.IsDue told words names files files' old new planned text report → planned ≡ 9 → spec.StoreFault told words old new
-  failed (spec.outcome o) is = absurd ((far-six told words names old new planned text report o).1 is)
-  failed (spec.unread before file last sound named cause same six nothing line) is = absurd (omega (arith, six, is))
-  failed (spec.failed file calls asks names_are cause nine nothing line) is = (file, calls, asks, cause)
+-- a status other than that of a sink's fault is the planned one
+planned-as : (planned ended k : Status) → (ended ≡ planned) ⊎ (ended ≡ status.Sink) → ended ≡ k → k ≢ status.Sink → (planned ≡ k) × (ended ≡ planned)
+planned-as planned ended k (inl is) e other = (sym is ∙ e, is)
+planned-as planned ended k (inr sink) e other = absurd (other (sym e ∙ sink))
 
-  module _ (out out' err err' : Option (List ℕ)) where
-    abbrev IsWhole : Type 0
-    IsWhole = spec.Whole out out' err err' text report
+-- no plan has the status of an outcome and another one
+odd-outcome : (words : List (List ℕ)) (before after : Inputs) (plan : Plan) (fault : Status) → (IsKnown fault → ⊥) → spec.IsOutcome words before after plan → plan.status ≡ fault → ⊥
+odd-outcome words before after plan fault never o e = known-not plan.status fault never (outcome-known words before after plan o) e
 
-    -- it has its line
-    pub store_report : spec.IsDue told words names files files' old new planned text report → planned ≡ 9 → IsWhole → spec.Whole out out' err err' [] store_failed
-    store_report (spec.outcome o) is whole = absurd ((far-six told words names old new planned text report o).1 is)
-    store_report (spec.unread before file last sound named cause same six nothing line) is whole = absurd (omega (arith, six, is))
-    store_report (spec.failed file calls asks names_are cause nine nothing line) is whole = rw (nothing, line) at whole
+-- nor that of one refusal and of another
+odd-refusal : (plan : Plan) (s fault : Status) (line : List ℕ) → s ≢ fault → plan ≡ refusal s line → plan.status ≡ fault → ⊥
+odd-refusal plan s fault line other is e = other (sym (ap (λ (p : Plan). p.status) is) ∙ e)
 
-    module _ (asked asked' : List (List ℕ)) where
-      -- and so has that file
-      pub file_report : asked' ≡ asked ++ names → spec.IsDue told words names files files' old new planned text report → planned ≡ 6 → IsWhole → spec.FileReport told words asked asked' out out' err err'
-      file_report grown (spec.outcome o) is whole = absurd ((far-six told words names old new planned text report o).0 is)
-      file_report grown (spec.unread before file last sound named cause same six nothing line) is whole = (
-        before,
-        file,
-        sound,
-        named,
-        grown ∙ ap (λ (n : List (List ℕ)). asked ++ n) last,
-        rw (nothing, line) at whole,
-      )
-      file_report grown (spec.failed file calls asks names_are cause nine nothing line) is whole = absurd (omega (arith, nine, is))
+-- ---- what the desk promises
 
-      module _ (result : ℕ) where
-        -- the outcome that was put whole is put with its status
-        put : result ≡ planned → asked' ≡ asked ++ names → spec.IsOutcome told words names old new planned text report → IsWhole → spec.Put told words asked asked' old new result out out' err err'
-        put is grown o whole = (names, text, report, grown, subst (λ (s : ℕ). spec.IsOutcome told words names old new s text report) (sym is) o, whole)
+module _
+    (words : List (List ℕ)) (before after : World) (plan : Plan) (ended : Status) (result : ℕ) (is : result ≡ number ended)
+    (ends : (ended ≡ plan.status) ⊎ (ended ≡ status.Sink)) (under_way : spec.IsUnderWay words before.inputs after.inputs plan)
+    (whole : ended ≡ plan.status → spec.Whole before.outputs after.outputs plan.text plan.report)
+    (cut : ended ≡ status.Sink → spec.Cut before.outputs after.outputs plan.text plan.report)
+    (cause : ended ≡ status.Sink → spec.EitherRose before.outputs after.outputs) where
+  -- a refusal that was put whole
+  refused-whole : (s : Status) (line : List ℕ) → plan ≡ refusal s line → ended ≡ plan.status → spec.Whole before.outputs after.outputs [] line
+  refused-whole s line p e =
+      let text : plan.text ≡ [] = ap (λ (q : Plan). q.text) p in
+      let report : plan.report ≡ line = ap (λ (q : Plan). q.report) p in
+      rw (text, report) at (whole e)
 
-        as_planned : result ≡ planned → asked' ≡ asked ++ names → spec.IsDue told words names files files' old new planned text report → IsWhole → spec.Right told words asked asked' old new result out out' err err'
-        as_planned is grown (spec.outcome o) whole = inr (inr (inr (inr (put is grown o whole))))
-        as_planned is grown (spec.unread before file last sound named cause same six nothing line) whole = inl (is ∙ six)
-        as_planned is grown (spec.failed file calls asks names_are cause nine nothing line) whole = inr (inr (inr (inl (is ∙ nine))))
+  -- the number of the planned status
+  numbered : (s : Status) (line : List ℕ) → plan ≡ refusal s line → ended ≡ plan.status → result ≡ number s
+  numbered s line p e = is ∙ ap number (e ∙ ap (λ (q : Plan). q.status) p)
 
-        -- what was due was put, or the status says otherwise
-        pub right : (result ≡ planned) ⊎ (result ≡ 7) → asked' ≡ asked ++ names → spec.IsDue told words names files files' old new planned text report → (result ≡ planned → IsWhole)
-            → spec.Right told words asked asked' old new result out out' err err'
-        right (inl is) grown due whole = as_planned is grown due (whole is)
-        right (inr seven) grown due whole = inr (inl seven)
+  put : spec.IsOutcome words before.inputs after.inputs plan → ended ≡ plan.status → spec.Put words before after result
+  put o e = (plan, is ∙ ap number e, o, whole e)
 
-        completed : result ≡ planned → asked' ≡ asked ++ names → spec.IsDue told words names files files' old new planned text report → IsWhole → (Rose files files' → ⊥) → spec.StoreHolds words old new
-            → spec.Put told words asked asked' old new result out out' err err'
-        completed is grown (spec.outcome o) whole no_file holds = put is grown o whole
-        completed is grown (spec.unread before file last sound named cause same six nothing line) whole no_file holds = absurd (no_file cause)
-        completed is grown (spec.failed file calls asks names_are cause nine nothing line) whole no_file holds = absurd (never-failed told words old new file calls asks holds cause)
+  pub right : spec.Right words before after result
+  right = go ends under_way
+    where
+      go : (ended ≡ plan.status) ⊎ (ended ≡ status.Sink) → spec.IsUnderWay words before.inputs after.inputs plan → spec.Right words before after result
+      go (inr sink) u = inr (inl (is ∙ ap number sink))
+      go (inl e) (spec.memory p) = inr (inr (inl (numbered status.Memory no_memory p e)))
+      go (inl e) (spec.due (spec.outcome o)) = inr (inr (inr (inr (put o e))))
+      go (inl e) (spec.due (spec.unread earlier file asks sound named rose same p)) = inl (numbered status.File _ p e)
+      go (inl e) (spec.due (spec.failed file calls asked asks failed p)) = inr (inr (inr (inl (numbered status.Store _ p e))))
 
-        -- where nothing failed, the outcome was put
-        pub complete : (outs outs' errs errs' : ℕ) → (result ≡ planned) ⊎ (result ≡ 7) → asked' ≡ asked ++ names → spec.IsDue told words names files files' old new planned text report → (result ≡ planned → IsWhole)
-            → (result ≡ 7 → Rose outs outs' ⊎ Rose errs errs') → spec.Complete told words asked asked' files files' outs outs' errs errs' old new result out out' err err'
-        complete outs outs' errs errs' (inl is) grown due whole cause = λ no_file no_out no_err holds. inr (completed is grown due (whole is) no_file holds)
-        complete outs outs' errs errs' (inr seven) grown due whole cause = λ no_file no_out no_err holds. elim (cause seven) [ inl rise ↦ absurd (no_out rise) | inr rise ↦ absurd (no_err rise) ]
+  pub complete : spec.Complete words before after result
+  complete holds = go ends under_way
+    where
+      go : (ended ≡ plan.status) ⊎ (ended ≡ status.Sink) → spec.IsUnderWay words before.inputs after.inputs plan → ((result ≡ number status.Memory) × spec.Whole before.outputs after.outputs [] no_memory) ⊎ spec.Put words before after result
+      go (inr sink) u = elim (cause sink) [ inl rise ↦ absurd (holds.out rise) | inr rise ↦ absurd (holds.err rise) ]
+      go (inl e) (spec.memory p) = inl (numbered status.Memory no_memory p e, refused-whole status.Memory no_memory p e)
+      go (inl e) (spec.due (spec.outcome o)) = inr (put o e)
+      go (inl e) (spec.due (spec.unread earlier file asks sound named rose same p)) = absurd (holds.files rose)
+      go (inl e) (spec.due (spec.failed file calls asked asks failed p)) = absurd (never-failed words before after file calls asked holds failed)
 
--- where memory ran out and no sink failed, one line says so
-pub short : (told : Holdings) (words asked asked' : List (List ℕ)) (files files' outs outs' errs errs' : ℕ) (old new : Meaning) (result : ℕ) (out out' err err' : Option (List ℕ)) → (result ≡ 8) ⊎ (result ≡ 7)
-    → (result ≡ 8 → spec.Whole out out' err err' [] lines.no_memory) → (result ≡ 7 → Rose outs outs' ⊎ Rose errs errs') → spec.Complete told words asked asked' files files' outs outs' errs errs' old new result out out' err err'
-short told words asked asked' files files' outs outs' errs errs' old new result out out' err err' ends whole sink_fault no_file no_out no_err holds =
-    elim ends [
-      | inl eight ↦ inl (eight, whole eight)
-      | inr seven ↦ elim (sink_fault seven) [ inl rise ↦ absurd (no_out rise) | inr rise ↦ absurd (no_err rise) ]
-    ]
+  pub file_fault : result ≡ number status.File → spec.FileFault words before after
+  file_fault six = let s = planned-as plan.status ended status.File ends (settle ended status.File result is six) (λ h. cc) in go s.0 s.1 under_way
+    where
+      go : plan.status ≡ status.File → ended ≡ plan.status → spec.IsUnderWay words before.inputs after.inputs plan → spec.FileFault words before after
+      go s e (spec.memory p) = absurd (odd-refusal plan status.Memory status.File no_memory (λ h. cc) p s)
+      go s e (spec.due (spec.outcome o)) = absurd (odd-outcome words before.inputs after.inputs plan status.File (λ n. n) o s)
+      go s e (spec.due (spec.unread earlier file asks sound named rose same p)) =
+          record { cause = rose; earlier = earlier; file = file; sound = sound; named = named; asked = asks; put = refused-whole status.File _ p e }
+      go s e (spec.due (spec.failed file calls asked asks failed p)) = absurd (odd-refusal plan status.Store status.File _ (λ h. cc) p s)
 
--- a status other than 7 is the planned one
-pub settle : (planned result k : ℕ) → (result ≡ planned) ⊎ (result ≡ 7) → result ≡ k → k ≢ 7 → (planned ≡ k) × (result ≡ planned)
-settle planned result k (inl is) e other = (sym is ∙ e, is)
-settle planned result k (inr seven) e other = absurd (other (sym e ∙ seven))
+  pub store_fault : result ≡ number status.Store → spec.StoreFault words before after
+  store_fault nine = let s = planned-as plan.status ended status.Store ends (settle ended status.Store result is nine) (λ h. cc) in go s.0 s.1 under_way
+    where
+      go : plan.status ≡ status.Store → ended ≡ plan.status → spec.IsUnderWay words before.inputs after.inputs plan → spec.StoreFault words before after
+      go s e (spec.memory p) = absurd (odd-refusal plan status.Memory status.Store no_memory (λ h. cc) p s)
+      go s e (spec.due (spec.outcome o)) = absurd (odd-outcome words before.inputs after.inputs plan status.Store (λ n. n) o s)
+      go s e (spec.due (spec.unread earlier file asks sound named rose same p)) = absurd (odd-refusal plan status.File status.Store _ (λ h. cc) p s)
+      go s e (spec.due (spec.failed file calls asked asks failed p)) = record { file = file; calls = calls; asks = asked; failed = failed; put = refused-whole status.Store _ p e }
 
--- names that were asked for are some
-pub some-names : (words asked asked' : List (List ℕ)) → AskedFirst words asked asked' → (names : List (List ℕ)) × (asked' ≡ asked ++ names)
-some-names words asked asked' (inl e) = ([], e ∙ sym (append-nil asked))
-some-names words asked asked' (inr h) = (take h.1 (files_of h.0), h.3)
+  pub memory_fault : result ≡ number status.Memory → spec.Whole before.outputs after.outputs [] no_memory
+  memory_fault eight = let s = planned-as plan.status ended status.Memory ends (settle ended status.Memory result is eight) (λ h. cc) in go s.0 s.1 under_way
+    where
+      go : plan.status ≡ status.Memory → ended ≡ plan.status → spec.IsUnderWay words before.inputs after.inputs plan → spec.Whole before.outputs after.outputs [] no_memory
+      go s e (spec.memory p) = refused-whole status.Memory no_memory p e
+      go s e (spec.due (spec.outcome o)) = absurd (odd-outcome words before.inputs after.inputs plan status.Memory (λ n. n) o s)
+      go s e (spec.due (spec.unread earlier file asks sound named rose same p)) = absurd (odd-refusal plan status.File status.Memory _ (λ h. cc) p s)
+      go s e (spec.due (spec.failed file calls asked asks failed p)) = absurd (odd-refusal plan status.Store status.Memory _ (λ h. cc) p s)
+
+  pub sink_fault : result ≡ number status.Sink → spec.SinkFault words before after
+  sink_fault seven = let sink = settle ended status.Sink result is seven in record { cause = cause sink; plan = plan; under_way = under_way; cut = cut sink }
+
+  -- nothing is changed in the store by a call that ends early
+  pub spared : spec.EndsEarly result → Spares before.inputs after.inputs
+  spared early = go ends under_way
+    where
+      go : (ended ≡ plan.status) ⊎ (ended ≡ status.Sink) → spec.IsUnderWay words before.inputs after.inputs plan → Spares before.inputs after.inputs
+      go (inr sink) u = absurd (early.1 (is ∙ ap number sink))
+      go (inl e) (spec.memory p) = absurd (early.2 (numbered status.Memory no_memory p e))
+      go (inl e) (spec.due (spec.outcome o)) = outcome-spared words before.inputs after.inputs plan o (λ done. early.0 (is ∙ ap number (e ∙ done)))
+      go (inl e) (spec.due (spec.unread earlier file asks sound named rose same p)) = same
+      go (inl e) (spec.due (spec.failed file calls asked asks failed p)) = absurd (early.3 (numbered status.Store _ p e))
+
+  -- words are refused where the plan refuses them
+  pub refused : (Told : Type 0) → (plan.status ≡ status.Words → Told) → result ≡ number status.Words → Told
+  refused Told k one = k (planned-as plan.status ended status.Words ends (settle ended status.Words result is one) (λ h. cc)).0
 
 -- where no run is asked for, none is left
-pub alone : (told : Holdings) (words : List (List ℕ)) (old new : Meaning) → running.IsLeft told words old new → AsksForNoRun words → new ≡ old
-alone told words old new (inl same) none = same
-alone told words old new (inr h) none = absurd (none h.0 h.1 h.2)
+pub alone : (words : List (List ℕ)) (before after : Inputs) → running.IsLeft words before after → AsksForNoRun words → Spares before after
+alone words before after (inl same) none = same
+alone words before after (inr h) none = absurd (none h.0 h.1 h.2)

@@ -1,7 +1,6 @@
 -- What the desk puts with status 0 where the words ask to migrate is a migration.
-use Rattle.std.proofs.Common.{◌≡◌, ◌≢◌, ℕ, List, Option, Some, inl, inr, sym, refl, ◌∙◌, subst, arith}
+use Rattle.std.proofs.Common.{◌≡◌, ◌≢◌, ℕ, List, Some, inl, inr, sym, ap, refl, ◌∙◌, subst}
 use Rattle.mig_schema.specs.declared.jobs.Job.{Job}
-use Rattle.mig_stores.specs.Meaning.{Meaning}
 use Rattle.mig_syntax.specs.declared.fault.TextFault.{TextFault}
 use Rattle.mig_syntax.specs.declared.fault.TextFault.TheVariants as fault
 use Rattle.mig_words.specs.declared.command.Command.TheVariants.{Migrate}
@@ -9,9 +8,13 @@ use Rattle.mig_rules.specs.Keeping.{FollowLaw}
 use Rattle.mig_rules.proofs.FollowProper.{follow-proper}
 use Rattle.mig_rules.proofs.FollowKeeps.{follow-keeps}
 use Rattle.mig_certificate.proofs.Shown.{valid-equivalent}
+use Rattle.mig_messages.specs.declared.status.Status.TheVariants as status
+use Rattle.mig_messages.specs.Statuses.{fault_status, number}
+use Rattle.mig_messages.proofs.Numbers.{number-one}
+use Rattle.mig_cli.specs.declared.planning.Plan.{Plan}
+use Rattle.mig_cli.specs.World.{Holdings, Inputs, World}
 use Rattle.mig_cli.specs.Asked.{AsksToMigrate}
 use Rattle.mig_cli.specs.Jobs as jobs
-use Rattle.mig_cli.specs.Lines.{fault_status}
 use Rattle.mig_cli.specs.Migrating as migrating
 use Rattle.mig_cli.specs.Desk as spec
 use Rattle.mig_cli.specs.Headline.{IsMigration, Migrates}
@@ -44,55 +47,60 @@ answer-migrates bytes job t =
       equivalent = valid-equivalent job (renamed job) (renaming_certificate job) valid typed law;
     }
 
-never-zero : (e : TextFault) → fault_status e ≢ 0
-never-zero fault.Memory h = cc
-never-zero (fault.At row column) h = cc
-never-zero (fault.Limit which row) h = cc
-never-zero (fault.Typing f) h = cc
+never-done : (e : TextFault) → fault_status e ≢ status.Done
+never-done fault.Memory h = cc
+never-done (fault.At row column) h = cc
+never-done (fault.Limit which row) h = cc
+never-done (fault.Typing f) h = cc
 
--- no refusal has status 0
-refused-not_zero : (told : jobs.Holdings) (file : List ℕ) (status : ℕ) (report : List ℕ) → jobs.IsRefusedJob told file status report → status ≢ 0
-refused-not_zero told file status report (jobs.long longer ten line) zero = absurd (omega (arith, ten, zero))
-refused-not_zero told file status report (jobs.faulty bytes e gave first is line) zero = never-zero e (sym is ∙ zero)
+-- the status of a plan that is another one
+status-as : (plan planned : Plan) → plan ≡ planned → plan.status ≡ status.Done → planned.status ≡ status.Done
+status-as plan planned is done = ap (λ (p : Plan). p.status) (sym is) ∙ done
+
+-- no refusal is done
+refused-not_done : (told : Holdings) (file : List ℕ) (plan : Plan) → jobs.IsRefusedJob told file plan → plan.status ≢ status.Done
+refused-not_done told file plan (jobs.long longer is) done = let odd : status.Limit ≡ status.Done = status-as plan _ is done in cc
+refused-not_done told file plan (jobs.faulty bytes e gave first is) done = never-done e (status-as plan _ is done)
 
 -- what a file gave that tells what it holds is what it holds
-gave-held : (told : jobs.Holdings) (file : List ℕ) (most : ℕ) (bytes held : List ℕ) → told file ≡ Some held → jobs.Gave told file most bytes → bytes ≡ held
+gave-held : (told : Holdings) (file : List ℕ) (most : ℕ) (bytes held : List ℕ) → told file ≡ Some held → jobs.Gave told file most bytes → bytes ≡ held
 gave-held told file most bytes held is gave = gave.holds held is
 
--- what is migrated with status 0 is a migration of the told job
-migrated-zero : (told : jobs.Holdings) (file held : List ℕ) (status : ℕ) (text report : List ℕ) → told file ≡ Some held → status ≡ 0 → migrating.IsMigrated told file status text report → IsMigration held text
-migrated-zero told file held status text report is zero (migrating.refused h nothing) = absurd (refused-not_zero told file status report h zero)
-migrated-zero told file held status text report is zero (migrating.not_plain job gave other two nothing line) = absurd (omega (arith, two, zero))
-migrated-zero told file held status text report is zero (migrating.done job gave plain ends answer line) =
-    let m = subst (λ (t : List ℕ). IsMigration gave.bytes t) (sym answer) (answer-migrates gave.bytes job (plain-text gave.bytes job gave.spells plain)) in
-    subst (λ (b : List ℕ). IsMigration b text) (gave-held told file jobs.job_cap gave.bytes held is gave.gave) m
+-- what is migrated and done is a migration of the told job
+migrated-done : (told : Holdings) (file held : List ℕ) (plan : Plan) → told file ≡ Some held → plan.status ≡ status.Done → migrating.IsMigrated told file plan → IsMigration held plan.text
+migrated-done told file held plan holds done (migrating.refused h) = absurd (refused-not_done told file plan h done)
+migrated-done told file held plan holds done (migrating.not_plain job gave other is) = absurd (let odd : status.Text ≡ status.Done = status-as plan _ is done in cc)
+migrated-done told file held plan holds done (migrating.done job gave plain is) =
+    let text : plan.text ≡ migrating.answer job = ap (λ (p : Plan). p.text) is in
+    let m = subst (λ (t : List ℕ). IsMigration gave.bytes t) (sym text) (answer-migrates gave.bytes job (plain-text gave.bytes job gave.spells plain)) in
+    subst (λ (b : List ℕ). IsMigration b plan.text) (gave-held told file jobs.job_cap gave.bytes held holds gave.gave) m
 
 -- so is the outcome where the words ask to migrate
-outcome-migrates : (told : jobs.Holdings) (words names : List (List ℕ)) (old new : Meaning) (status : ℕ) (text report : List ℕ) → spec.Tells told words → ((file : List ℕ) × AsksToMigrate words file) → status ≡ 0
-    → spec.IsOutcome told words names old new status text report
-    → (file : List ℕ) × (bytes : List ℕ) × AsksToMigrate words file × (told file ≡ Some bytes) × IsMigration bytes text
-outcome-migrates told words names old new status text report tells asks zero (spec.refused e h names_are same one nothing line) = absurd (omega (arith, one, zero))
-outcome-migrates told words names old new status text report tells asks zero (spec.unbuilt command h none names_are same one nothing line) = absurd (omega (arith, one, zero))
-outcome-migrates told words names old new status text report tells asks zero (spec.migrated file is names_are same h) =
-    let t = tells file (Migrate file is.0, is.1, inl refl) in
-    (file, t.0, is, t.1, migrated-zero told file t.0 status text report t.1 zero h)
-outcome-migrates told words names old new status text report tells asks zero (spec.run file calls is h) = absurd (migrate-no_run words asks.0 file calls asks.1 is)
+outcome-migrates : (words : List (List ℕ)) (before after : Inputs) (plan : Plan) → spec.Tells before.files.told words → ((file : List ℕ) × AsksToMigrate words file) → plan.status ≡ status.Done
+    → spec.IsOutcome words before after plan
+    → (file : List ℕ) × (bytes : List ℕ) × AsksToMigrate words file × (before.files.told file ≡ Some bytes) × IsMigration bytes plan.text
+outcome-migrates words before after plan tells asks done (spec.refused e h names same is) = absurd (let odd : status.Words ≡ status.Done = status-as plan _ is done in cc)
+outcome-migrates words before after plan tells asks done (spec.unbuilt command h none names same is) = absurd (let odd : status.Words ≡ status.Done = status-as plan _ is done in cc)
+outcome-migrates words before after plan tells asks done (spec.migrated file asked names same h) =
+    let t = tells file (Migrate file asked.0, asked.1, inl refl) in
+    (file, t.0, asked, t.1, migrated-done before.files.told file t.0 plan t.1 done h)
+outcome-migrates words before after plan tells asks done (spec.run file calls asked h) = absurd (migrate-no_run words asks.0 file calls asks.1 asked)
 
--- what is right with status 0 is a migration that was put whole
-pub right-migrates : (told : jobs.Holdings) (words asked asked' : List (List ℕ)) (old new : Meaning) (status : ℕ) (out out' err err' : Option (List ℕ)) → spec.Right told words asked asked' old new status out out' err err'
-    → Migrates told words status out out'
-right-migrates told words asked asked' old new status out out' err err' right tells asks zero =
+-- what is right and done is a migration that was put whole
+pub right-migrates : (words : List (List ℕ)) (before after : World) (result : ℕ) → spec.Right words before after result → Migrates words before after result
+right-migrates words before after result right tells asks zero =
     elim right [
-      | inl six ↦ absurd (omega (arith, six, zero))
+      | inl six ↦ absurd (let odd : status.File ≡ status.Done = number-one status.File status.Done (sym six ∙ zero) in cc)
       | inr more ↦ elim more [
-        | inl seven ↦ absurd (omega (arith, seven, zero))
+        | inl seven ↦ absurd (let odd : status.Sink ≡ status.Done = number-one status.Sink status.Done (sym seven ∙ zero) in cc)
         | inr most ↦ elim most [
-          | inl eight ↦ absurd (omega (arith, eight, zero))
+          | inl eight ↦ absurd (let odd : status.Memory ≡ status.Done = number-one status.Memory status.Done (sym eight ∙ zero) in cc)
           | inr last ↦ elim last [
-            | inl nine ↦ absurd (omega (arith, nine, zero))
+            | inl nine ↦ absurd (let odd : status.Store ≡ status.Done = number-one status.Store status.Done (sym nine ∙ zero) in cc)
             | inr put ↦
-                let m = outcome-migrates told words put.0 old new status put.1 put.2 tells asks zero put.4 in
-                (m.0, m.1, put.1, m.2, m.3, put.5.answered, m.4)
+                let done = number-one put.0.status status.Done (sym put.1 ∙ zero) in
+                let m = outcome-migrates words before.inputs after.inputs put.0 tells asks done put.2 in
+                (m.0, m.1, put.0.text, m.2, m.3, put.3.answered, m.4)
           ]
         ]
       ]

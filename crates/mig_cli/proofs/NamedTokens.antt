@@ -13,7 +13,8 @@ use Rattle.mig_tokens.specs.declared.token.Token.{Token}
 use Rattle.mig_tokens.specs.declared.token.Token.TheVariants.{Word, Int, Text, Sign, Bad, End}
 use Rattle.mig_grammar.specs.declared.tree.FunctionTree.{FunctionTree}
 use Rattle.mig_grammar.specs.declared.tree.JobTree.{JobTree}
-use Rattle.mig_tokens.specs.Bytes.{is_digit, is_letter, is_name_byte, first_is, sign_len}
+use Rattle.mig_base.specs.Digits.{is_digit}
+use Rattle.mig_tokens.specs.Bytes.{is_letter, is_name_byte, first_is, sign_len}
 use Rattle.mig_tokens.specs.Tokens.{cut, text_at, text_token, first_token, Lexes}
 use Rattle.mig_tokens.specs.Marked.{Marked, clean}
 use Rattle.mig_tokens.specs.Words.{is_reserved}

@@ -6,7 +6,7 @@ use Rattle.std.proofs.lemmas.Bool.{and_parts, and_from, eqb-true, eq-eqb, ne_eqb
 use Rattle.mig_schema.specs.declared.tables.ColId.{ColId}
 use Rattle.mig_schema.specs.declared.tables.Column.{Column}
 use Rattle.mig_schema.specs.declared.tables.Schema.{Schema}
-use Rattle.mig_schema.specs.Lists.{numbered}
+use Rattle.mig_base.specs.Lists.{numbered}
 use Rattle.mig_schema.specs.Columns.{columns_of, columns_in, has_table, has_column, same_col}
 use Rattle.mig_cli.proofs.Passing.{count-yes, count-no}
 

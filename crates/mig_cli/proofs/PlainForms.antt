@@ -20,7 +20,7 @@ use Rattle.mig_schema.specs.Columns.{kind_of, has_table, has_column, columns_in,
 use Rattle.mig_schema.specs.Joins.{tables_of, is_among}
 use Rattle.mig_schema.specs.Plain.{is_param, is_no_where, is_plain_body}
 use Rattle.mig_schema.specs.Typed.{Piece, piece_of, pieces_of, query_piece, scalar_kind, names_no_param, named_columns, stands_twice, IsTypedPiece}
-use Rattle.mig_typing.proofs.Anys.{any-map}
+use Rattle.mig_schema.proofs.Anys.{any-map}
 use Rattle.mig_cli.specs.Renaming.{one_table}
 use Rattle.mig_cli.proofs.Passing.{all-of_none}
 use Rattle.mig_cli.proofs.OneTable.{the-first, each-column}

@@ -18,12 +18,12 @@ use Rattle.mig_schema.specs.declared.programs.Body.{Body}
 use Rattle.mig_schema.specs.declared.programs.Body.TheVariants as body
 use Rattle.mig_schema.specs.declared.programs.Function.{Function}
 use Rattle.mig_schema.specs.declared.jobs.Job.{Job}
-use Rattle.mig_schema.specs.Lists.{again}
+use Rattle.mig_base.specs.Lists.{again}
 use Rattle.mig_schema.specs.Columns.{kind_of, has_table, has_column, columns_in, same_col, same_kind}
 use Rattle.mig_schema.specs.Joins.{is_among}
 use Rattle.mig_schema.specs.Plain.{is_plain_body, IsPlain}
 use Rattle.mig_schema.specs.Typed.{pieces_of, scalar_kind, names_no_param, IsTypedPiece, IsTypedFunction, IsTypedProgram, IsTyped}
-use Rattle.mig_typing.proofs.Anys.{any-map}
+use Rattle.mig_schema.proofs.Anys.{any-map}
 use Rattle.mig_cli.specs.Renaming.{image, origin, value_at, one_table, renamed_value, renamed_values, renamed_body, renamed_function, renamed}
 use Rattle.mig_cli.proofs.Passing.{none-from, all-from, in-none}
 use Rattle.mig_cli.proofs.OneTable.{has-first, the-first, all-columns, once-column}

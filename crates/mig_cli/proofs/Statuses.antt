@@ -1,74 +1,90 @@
 -- Which statuses the outcome has.
-use Rattle.std.proofs.Common.{◌≡◌, ◌≢◌, ℕ, ◌≤◌, List, ◌⊎◌, inl, inr, refl, arith}
+use Rattle.std.proofs.Common.{◌≡◌, ◌≢◌, ℕ, List, refl, sym, ap, ◌∙◌, subst}
 use Rattle.mig_syntax.specs.declared.fault.TextFault.{TextFault}
-use Rattle.mig_syntax.specs.declared.fault.TextFault.TheVariants as fault
+use Rattle.mig_syntax.specs.declared.fault.TextFault.TheVariants as text
 use Rattle.mig_store.specs.declared.faults.CallsFault.{CallsFault}
 use Rattle.mig_store.specs.declared.faults.CallsFault.TheVariants as calls
-use Rattle.mig_stores.specs.Meaning.{Meaning}
+use Rattle.mig_messages.specs.declared.status.Status.{Status}
+use Rattle.mig_messages.specs.declared.status.Status.TheVariants as status
+use Rattle.mig_messages.specs.Statuses.{calls_status, fault_status}
+use Rattle.mig_cli.specs.declared.planning.Plan.{Plan}
+use Rattle.mig_cli.specs.World.{Holdings, Inputs}
 use Rattle.mig_cli.specs.Jobs as jobs
 use Rattle.mig_cli.specs.Migrating as migrating
 use Rattle.mig_cli.specs.Running as running
-use Rattle.mig_cli.specs.Lines as lines
-use Rattle.mig_cli.specs.CallLines as call_lines
 use Rattle.mig_cli.specs.Desk as spec
 
--- 0, 2, or at least 10
-abbrev pub IsFar : ℕ → Type 0
-IsFar s = (s ≡ 0) ⊎ ((s ≡ 2) ⊎ (10 ≤ s))
+-- a status of an outcome: no fault's, and none of a search or a verdict
+abbrev pub IsKnown : Status → Type 0
+IsKnown status.Done = Unit {0}
+IsKnown status.Words = Unit {0}
+IsKnown status.Text = Unit {0}
+IsKnown status.Exhausted = ⊥
+IsKnown status.Spent = ⊥
+IsKnown status.Rejected = ⊥
+IsKnown status.File = ⊥
+IsKnown status.Sink = ⊥
+IsKnown status.Memory = ⊥
+IsKnown status.Store = ⊥
+IsKnown status.Limit = Unit {0}
+IsKnown status.Calls = Unit {0}
 
-text-far : (bytes : List ℕ) (e : TextFault) (s : ℕ) → jobs.IsTextFault bytes e → s ≡ lines.fault_status e → IsFar s
-text-far bytes fault.Memory s (jobs.wrong row column h e) is = absurd cc
-text-far bytes fault.Memory s (jobs.past which row h e) is = absurd cc
-text-far bytes fault.Memory s (jobs.mistyped f h e) is = absurd cc
-text-far bytes fault.Memory s (jobs.many h e) is = absurd cc
-text-far bytes (fault.At row column) s h is = inr (inl is)
-text-far bytes (fault.Limit which row) s h is = let ten : s ≡ 10 = is in inr (inr (omega (arith, ten)))
-text-far bytes (fault.Typing f) s h is = inr (inl is)
+-- the status of a plan that is known
+known-as : (plan planned : Plan) → plan ≡ planned → IsKnown planned.status → IsKnown plan.status
+known-as plan planned is known = subst (λ (s : Status). IsKnown s) (ap (λ (p : Plan). p.status) (sym is)) known
 
-job-far : (told : jobs.Holdings) (file : List ℕ) (s : ℕ) (report : List ℕ) → jobs.IsRefusedJob told file s report → IsFar s
-job-far told file s report (jobs.long longer ten line) = inr (inr (omega (arith, ten)))
-job-far told file s report (jobs.faulty bytes e gave first is line) = text-far bytes e s first is
+text-known : (bytes : List ℕ) (e : TextFault) → jobs.IsTextFault bytes e → IsKnown (fault_status e)
+text-known bytes text.Memory (jobs.wrong row column h e) = absurd cc
+text-known bytes text.Memory (jobs.past which row h e) = absurd cc
+text-known bytes text.Memory (jobs.mistyped f h e) = absurd cc
+text-known bytes text.Memory (jobs.many h e) = absurd cc
+text-known bytes (text.At row column) h = tt
+text-known bytes (text.Limit which row) h = tt
+text-known bytes (text.Typing f) h = tt
 
-calls-far : (e : CallsFault) (s : ℕ) → (e ≡ calls.Memory → ⊥) → s ≡ call_lines.calls_status e → IsFar s
-calls-far calls.Memory s other is = absurd (other refl)
-calls-far (calls.Unknown at) s other is = let eleven : s ≡ 11 = is in inr (inr (omega (arith, eleven)))
-calls-far (calls.Arity at) s other is = let eleven : s ≡ 11 = is in inr (inr (omega (arith, eleven)))
-calls-far (calls.Value at field) s other is = let eleven : s ≡ 11 = is in inr (inr (omega (arith, eleven)))
-calls-far calls.Limit s other is = let ten : s ≡ 10 = is in inr (inr (omega (arith, ten)))
+job-known : (told : Holdings) (file : List ℕ) (plan : Plan) → jobs.IsRefusedJob told file plan → IsKnown plan.status
+job-known told file plan (jobs.long longer is) = known-as plan _ is tt
+job-known told file plan (jobs.faulty bytes e gave first is) = known-as plan _ is (text-known bytes e first)
 
-pub migrated-far : (told : jobs.Holdings) (file : List ℕ) (s : ℕ) (text report : List ℕ) → migrating.IsMigrated told file s text report → IsFar s
-migrated-far told file s text report (migrating.refused h nothing) = job-far told file s report h
-migrated-far told file s text report (migrating.not_plain job gave other two nothing line) = inr (inl two)
-migrated-far told file s text report (migrating.done job gave plain is answer line) = inl is
+calls-known : (e : CallsFault) → (e ≡ calls.Memory → ⊥) → IsKnown (calls_status e)
+calls-known calls.Memory other = absurd (other refl)
+calls-known (calls.Unknown at) other = tt
+calls-known (calls.Arity at) other = tt
+calls-known (calls.Value at field) other = tt
+calls-known calls.Limit other = tt
 
-pub run-far : (told : jobs.Holdings) (file calls : List ℕ) (names : List (List ℕ)) (old new : Meaning) (s : ℕ) (text report : List ℕ) → running.IsRun told file calls names old new s text report → IsFar s
-run-far told file calls names old new s text report (running.no_job h names_are same nothing) = job-far told file s report h
-run-far told file calls names old new s text report (running.long job gave longer names_are same ten nothing line) = inr (inr (omega (arith, ten)))
-run-far told file calls names old new s text report (running.no_calls job gave bytes got cause h names_are is nothing line) = calls-far cause s h.never is
-run-far told file calls names old new s text report (running.played job gave bytes got h names_are is line) = inl is
+migrated-known : (told : Holdings) (file : List ℕ) (plan : Plan) → migrating.IsMigrated told file plan → IsKnown plan.status
+migrated-known told file plan (migrating.refused h) = job-known told file plan h
+migrated-known told file plan (migrating.not_plain job gave other is) = known-as plan _ is tt
+migrated-known told file plan (migrating.done job gave plain is) = known-as plan _ is tt
 
--- at most 2, or at least 10
-abbrev pub IsKnown : ℕ → Type 0
-IsKnown s = (s ≤ 2) ⊎ (10 ≤ s)
+run-known : (file calls : List ℕ) (before after : Inputs) (plan : Plan) → running.IsRun file calls before after plan → IsKnown plan.status
+run-known file calls before after plan (running.no_job h asks same) = job-known before.files.told file plan h
+run-known file calls before after plan (running.long job gave longer asks same is) = known-as plan _ is tt
+run-known file calls before after plan (running.no_calls job gave bytes got cause h asks is) = known-as plan _ is (calls-known cause h.never)
+run-known file calls before after plan (running.played job gave bytes got text h asks is) = known-as plan _ is tt
 
-far-known : (s : ℕ) → IsFar s → IsKnown s
-far-known s (inl zero) = inl (omega (arith, zero))
-far-known s (inr (inl two)) = inl (omega (arith, two))
-far-known s (inr (inr more)) = inr more
+-- no outcome has the status of a fault
+pub outcome-known : (words : List (List ℕ)) (before after : Inputs) (plan : Plan) → spec.IsOutcome words before after plan → IsKnown plan.status
+outcome-known words before after plan (spec.refused e h asks same is) = known-as plan _ is tt
+outcome-known words before after plan (spec.unbuilt command h none asks same is) = known-as plan _ is tt
+outcome-known words before after plan (spec.migrated file asked asks same h) = migrated-known before.files.told file plan h
+outcome-known words before after plan (spec.run file calls asked h) = run-known file calls before after plan h
 
--- no outcome has one of the statuses 3 to 9
-pub outcome-known : (told : jobs.Holdings) (words names : List (List ℕ)) (old new : Meaning) (s : ℕ) (text report : List ℕ) → spec.IsOutcome told words names old new s text report → IsKnown s
-outcome-known told words names old new s text report (spec.refused e h names_are same one nothing line) = inl (omega (arith, one))
-outcome-known told words names old new s text report (spec.unbuilt command h other names_are same one nothing line) = inl (omega (arith, one))
-outcome-known told words names old new s text report (spec.migrated file asks names_are same h) = far-known s (migrated-far told file s text report h)
-outcome-known told words names old new s text report (spec.run file calls asks h) = far-known s (run-far told file calls names old new s text report h)
+-- a known status is none of these
+pub known-not : (s fault : Status) → (IsKnown fault → ⊥) → IsKnown s → s ≢ fault
+known-not s fault never known is = never (subst (λ (t : Status). IsKnown t) is known)
 
--- what is due has neither 7 nor 8
-pub due-not_seven : (told : jobs.Holdings) (words names : List (List ℕ)) (files files' : ℕ) (old new : Meaning) (s : ℕ) (text report : List ℕ) → spec.IsDue told words names files files' old new s text report → (s ≢ 7) × (s ≢ 8)
-due-not_seven told words names files files' old new s text report (spec.outcome h) =
-    elim (outcome-known told words names old new s text report h) [
-      | inl few ↦ ((λ e. absurd (omega (arith, few, e))), (λ e. absurd (omega (arith, few, e))))
-      | inr more ↦ ((λ e. absurd (omega (arith, more, e))), (λ e. absurd (omega (arith, more, e))))
-    ]
-due-not_seven told words names files files' old new s text report (spec.unread before file last sound named rose same six nothing line) = ((λ e. absurd (omega (arith, six, e))), (λ e. absurd (omega (arith, six, e))))
-due-not_seven told words names files files' old new s text report (spec.failed file calls asks names_are cause nine nothing line) = ((λ e. absurd (omega (arith, nine, e))), (λ e. absurd (omega (arith, nine, e))))
+-- what is due has neither the status of a sink's fault nor that of want of memory
+pub due-put : (words : List (List ℕ)) (before after : Inputs) (plan : Plan) → spec.IsDue words before after plan → (plan.status ≢ status.Sink) × (plan.status ≢ status.Memory)
+due-put words before after plan (spec.outcome h) =
+    let known = outcome-known words before after plan h in
+    (known-not plan.status status.Sink (λ n. n) known, known-not plan.status status.Memory (λ n. n) known)
+due-put words before after plan (spec.unread earlier file asks sound named rose same is) = (
+  (λ h. let e : status.File ≡ status.Sink = sym (ap (λ (p : Plan). p.status) is) ∙ h in cc),
+  (λ h. let e : status.File ≡ status.Memory = sym (ap (λ (p : Plan). p.status) is) ∙ h in cc),
+)
+due-put words before after plan (spec.failed file calls asked asks cause is) = (
+  (λ h. let e : status.Store ≡ status.Sink = sym (ap (λ (p : Plan). p.status) is) ∙ h in cc),
+  (λ h. let e : status.Store ≡ status.Memory = sym (ap (λ (p : Plan). p.status) is) ∙ h in cc),
+)

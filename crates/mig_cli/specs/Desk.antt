@@ -1,34 +1,39 @@
--- What the desk answers for its words, its files and its store, and what it leaves.
-use Rattle.std.specs.Prelude.{◌≡◌, ◌≢◌, ℕ, false, List, [], ◌∷◌, ◌++◌, Option, Some, ◌⊎◌}
+-- What the desk answers for its words in a world, and what it leaves there.
+use Rattle.std.specs.Prelude.{◌≡◌, ◌≢◌, ℕ, false, List, [], ◌∷◌, ◌++◌, Some, ◌⊎◌}
 use Rattle.mig_words.specs.declared.command.Command.{Command}
 use Rattle.mig_words.specs.declared.command.WordFault.{WordFault}
 use Rattle.mig_words.specs.Commands.{IsCommand}
 use Rattle.mig_words.specs.Faults.{IsFault}
 use Rattle.mig_io.specs.Counts.{Rose}
 use Rattle.mig_io.specs.Taken.{and_then, TookFront}
-use Rattle.mig_stores.specs.Meaning.{Meaning}
+use Rattle.mig_messages.specs.declared.status.Status.TheVariants as status
+use Rattle.mig_messages.specs.Statuses.{number}
+use Rattle.mig_messages.specs.Lines.{refused_words, unbuilt_words, cannot_read, no_memory}
+use Rattle.mig_messages.specs.CallLines.{store_failed}
+use Rattle.mig_cli.specs.declared.planning.Plan.{Plan}
+use Rattle.mig_cli.specs.Plans.{refusal}
+use Rattle.mig_cli.specs.World.{Asks, Holdings, Inputs, Outputs, Spares, World}
 use Rattle.mig_cli.specs.Asked.{files_of, AsksToMigrate, AsksToRun, NamesFile}
-use Rattle.mig_cli.specs.Jobs.{Holdings, GaveJobs}
+use Rattle.mig_cli.specs.Jobs.{GaveJobs}
 use Rattle.mig_cli.specs.Migrating.{IsMigrated}
 use Rattle.mig_cli.specs.Running.{IsRun, RunFailed}
-use Rattle.mig_cli.specs.Lines.{refused_words, unbuilt_words, cannot_read, no_memory}
-use Rattle.mig_cli.specs.CallLines.{store_failed}
 
 -- ---- outcomes
 
--- The outcome of the words, where neither files nor the store nor memory fail: the names asked for, what is left in the store, the status, the text for `out` and the text for `err`.
+-- The outcome of the words, where neither files nor the store nor memory fail: what is put, which names are asked for, and what is left in the store.
 -- Where the files tell what they hold and the store its state, these are the defined ones.
-pub data IsOutcome (told : Holdings) (words names : List (List ℕ)) (old new : Meaning) (status : ℕ) (text report : List ℕ) : Type 0 where
-  refused : (e : WordFault) → IsFault words e → names ≡ [] → new ≡ old → status ≡ 1 → text ≡ [] → report ≡ refused_words e → IsOutcome told words names old new status text report
-  unbuilt : (command : Command) → IsCommand words command → files_of command ≡ [] → names ≡ [] → new ≡ old → status ≡ 1 → text ≡ [] → report ≡ unbuilt_words → IsOutcome told words names old new status text report
-  migrated : (file : List ℕ) → AsksToMigrate words file → names ≡ file ∷ [] → new ≡ old → IsMigrated told file status text report → IsOutcome told words names old new status text report
-  run : (file calls : List ℕ) → AsksToRun words file calls → IsRun told file calls names old new status text report → IsOutcome told words names old new status text report
+pub data IsOutcome (words : List (List ℕ)) (before after : Inputs) (plan : Plan) : Type 0 where
+  refused : (e : WordFault) → IsFault words e → Asks before after [] → Spares before after → plan ≡ refusal status.Words (refused_words e) → IsOutcome words before after plan
+  unbuilt : (command : Command) → IsCommand words command → files_of command ≡ [] → Asks before after [] → Spares before after → plan ≡ refusal status.Words unbuilt_words → IsOutcome words before after plan
+  migrated : (file : List ℕ) → AsksToMigrate words file → Asks before after (file ∷ []) → Spares before after → IsMigrated before.files.told file plan → IsOutcome words before after plan
+  run : (file calls : List ℕ) → AsksToRun words file calls → IsRun file calls before after plan → IsOutcome words before after plan
 
 -- what is to be put: the outcome, or the line on a file that could not be read behind those that gave a job, or the one on a store that failed
-pub data IsDue (told : Holdings) (words names : List (List ℕ)) (files files' : ℕ) (old new : Meaning) (status : ℕ) (text report : List ℕ) : Type 0 where
-  outcome : IsOutcome told words names old new status text report → IsDue told words names files files' old new status text report
-  unread : (before : List (List ℕ)) (file : List ℕ) → names ≡ before ++ file ∷ [] → GaveJobs told before → NamesFile words file → Rose files files' → new ≡ old → status ≡ 6 → text ≡ [] → report ≡ cannot_read file → IsDue told words names files files' old new status text report
-  failed : (file calls : List ℕ) → AsksToRun words file calls → names ≡ file ∷ calls ∷ [] → RunFailed told file calls old new → status ≡ 9 → text ≡ [] → report ≡ store_failed → IsDue told words names files files' old new status text report
+pub data IsDue (words : List (List ℕ)) (before after : Inputs) (plan : Plan) : Type 0 where
+  outcome : IsOutcome words before after plan → IsDue words before after plan
+  unread : (earlier : List (List ℕ)) (file : List ℕ) → Asks before after (earlier ++ file ∷ []) → GaveJobs before.files.told earlier → NamesFile words file
+      → Rose before.files.faults after.files.faults → Spares before after → plan ≡ refusal status.File (cannot_read file) → IsDue words before after plan
+  failed : (file calls : List ℕ) → AsksToRun words file calls → Asks before after (file ∷ calls ∷ []) → RunFailed file calls before after → plan ≡ refusal status.Store store_failed → IsDue words before after plan
 
 -- The files tell what the named ones hold.
 abbrev pub Tells : Holdings → List (List ℕ) → Type 0
@@ -37,56 +42,75 @@ Tells told words = (file : List ℕ) → NamesFile words file → (bytes : List 
 -- ---- what was put
 
 -- both sinks took their texts whole
-pub record Whole (out out' err err' : Option (List ℕ)) (text report : List ℕ) : Type 0 where
-  pub answered : out' ≡ and_then out text
-  pub reported : err' ≡ and_then err report
+pub record Whole (before after : Outputs) (text report : List ℕ) : Type 0 where
+  pub answered : after.out.took ≡ and_then before.out.took text
+  pub reported : after.err.took ≡ and_then before.err.took report
 
 -- A sink failed: `out` has a prefix of its text, and `err` nothing unless `out` has all of it.
-pub record Cut (out out' err err' : Option (List ℕ)) (text report : List ℕ) : Type 0 where
-  pub answered : TookFront out out' text
-  pub reported : (err' ≡ err) ⊎ ((out' ≡ and_then out text) × TookFront err err' report)
+pub record Cut (before after : Outputs) (text report : List ℕ) : Type 0 where
+  pub answered : TookFront before.out.took after.out.took text
+  pub reported : (after.err.took ≡ before.err.took) ⊎ ((after.out.took ≡ and_then before.out.took text) × TookFront before.err.took after.err.took report)
 
--- the outcome was put whole, and its names were asked for
-abbrev pub Put : Holdings → List (List ℕ) → (asked asked' : List (List ℕ)) → (old new : Meaning) → ℕ → (out out' err err' : Option (List ℕ)) → Type 0
-Put told words asked asked' old new status out out' err err' =
-    (names : List (List ℕ)) × (text : List ℕ) × (report : List ℕ) × (asked' ≡ asked ++ names) × IsOutcome told words names old new status text report × Whole out out' err err' text report
+-- the count of faults of one of the sinks rose
+abbrev pub EitherRose : (before after : Outputs) → Type 0
+EitherRose before after = Rose before.out.faults after.out.faults ⊎ Rose before.err.faults after.err.faults
 
--- Right answers: with a status other than 6, 7, 8 and 9 the outcome was put whole.
-abbrev pub Right : Holdings → List (List ℕ) → (asked asked' : List (List ℕ)) → (old new : Meaning) → ℕ → (out out' err err' : Option (List ℕ)) → Type 0
-Right told words asked asked' old new status out out' err err' = (status ≡ 6) ⊎ ((status ≡ 7) ⊎ ((status ≡ 8) ⊎ ((status ≡ 9) ⊎ Put told words asked asked' old new status out out' err err')))
+-- the outcome was put whole, with its status
+abbrev pub Put : List (List ℕ) → (before after : World) → ℕ → Type 0
+Put words before after result =
+    (plan : Plan) × (result ≡ number plan.status) × IsOutcome words before.inputs after.inputs plan × Whole before.outputs after.outputs plan.text plan.report
 
--- where the words ask to run, the store counts no fault and is not broken before
-abbrev pub StoreHolds : List (List ℕ) → (old new : Meaning) → Type 0
-StoreHolds words old new = (file calls : List ℕ) → AsksToRun words file calls → (Rose old.faults new.faults → ⊥) × (old.broken ≡ false)
+-- ---- with every status but those of faults
 
--- Completeness: where no count of faults rose, the outcome was put whole, or memory ran out and one line says so.
-abbrev pub Complete : Holdings → List (List ℕ) → (asked asked' : List (List ℕ)) → (files files' : ℕ) → (outs outs' : ℕ) → (errs errs' : ℕ) → (old new : Meaning) → ℕ → (out out' err err' : Option (List ℕ)) → Type 0
-Complete told words asked asked' files files' outs outs' errs errs' old new status out out' err err' =
-    (Rose files files' → ⊥) → (Rose outs outs' → ⊥) → (Rose errs errs' → ⊥) → StoreHolds words old new
-    → ((status ≡ 8) × Whole out out' err err' [] no_memory) ⊎ Put told words asked asked' old new status out out' err err'
+-- Right answers: the outcome was put whole, but for the statuses of faults.
+abbrev pub Right : List (List ℕ) → (before after : World) → ℕ → Type 0
+Right words before after result =
+    (result ≡ number status.File) ⊎ ((result ≡ number status.Sink) ⊎ ((result ≡ number status.Memory) ⊎ ((result ≡ number status.Store) ⊎ Put words before after result)))
+
+-- No count of faults rose; and where the words ask to run, the store was not broken before.
+pub record NothingFails (words : List (List ℕ)) (before after : World) : Type 0 where
+  pub files : Rose before.inputs.files.faults after.inputs.files.faults → ⊥
+  pub out : Rose before.outputs.out.faults after.outputs.out.faults → ⊥
+  pub err : Rose before.outputs.err.faults after.outputs.err.faults → ⊥
+  pub store : (file calls : List ℕ) → AsksToRun words file calls → (Rose before.inputs.store.faults after.inputs.store.faults → ⊥) × (before.inputs.store.broken ≡ false)
+
+-- Completeness: where nothing fails, the outcome was put whole, or memory ran out and one line says so.
+abbrev pub Complete : List (List ℕ) → (before after : World) → ℕ → Type 0
+Complete words before after result =
+    NothingFails words before after → ((result ≡ number status.Memory) × Whole before.outputs after.outputs [] no_memory) ⊎ Put words before after result
+
+-- a status after which the store is as it was
+abbrev pub EndsEarly : ℕ → Type 0
+EndsEarly result = (result ≢ number status.Done) × (result ≢ number status.Sink) × (result ≢ number status.Memory) × (result ≢ number status.Store)
+
+-- ---- with the statuses of faults
+
+-- A file's count rose. Each file before it gave a job, and the line on this file, which was asked for last, is all that was put.
+pub record FileFault (words : List (List ℕ)) (before after : World) : Type 0 where
+  pub cause : Rose before.inputs.files.faults after.inputs.files.faults
+  pub earlier : List (List ℕ)
+  pub file : List ℕ
+  pub sound : GaveJobs before.inputs.files.told earlier
+  pub named : NamesFile words file
+  pub asked : Asks before.inputs after.inputs (earlier ++ file ∷ [])
+  pub put : Whole before.outputs after.outputs [] (cannot_read file)
 
 -- what may be under way where a sink fails: what is due, or the line on memory
-pub data IsUnderWay (told : Holdings) (words names : List (List ℕ)) (files files' : ℕ) (old new : Meaning) (text report : List ℕ) : Type 0 where
-  due : (status : ℕ) → IsDue told words names files files' old new status text report → IsUnderWay told words names files files' old new text report
-  memory : text ≡ [] → report ≡ no_memory → IsUnderWay told words names files files' old new text report
+pub data IsUnderWay (words : List (List ℕ)) (before after : Inputs) (plan : Plan) : Type 0 where
+  due : IsDue words before after plan → IsUnderWay words before after plan
+  memory : plan ≡ refusal status.Memory no_memory → IsUnderWay words before after plan
 
--- One of these was under way, and was cut short.
-abbrev pub CutShort : Holdings → List (List ℕ) → (asked asked' : List (List ℕ)) → (files files' : ℕ) → (old new : Meaning) → (out out' err err' : Option (List ℕ)) → Type 0
-CutShort told words asked asked' files files' old new out out' err err' =
-    (names : List (List ℕ)) × (text : List ℕ) × (report : List ℕ) × (asked' ≡ asked ++ names) × IsUnderWay told words names files files' old new text report × Cut out out' err err' text report
+-- A sink's count rose, and what was under way was cut short.
+pub record SinkFault (words : List (List ℕ)) (before after : World) : Type 0 where
+  pub cause : EitherRose before.outputs after.outputs
+  pub plan : Plan
+  pub under_way : IsUnderWay words before.inputs after.inputs plan
+  pub cut : Cut before.outputs after.outputs plan.text plan.report
 
--- After a file fault nothing is on `out`, and on `err` the line on the file that was asked for last; each one before it gave a job.
-abbrev pub FileReport : Holdings → List (List ℕ) → (asked asked' : List (List ℕ)) → (out out' err err' : Option (List ℕ)) → Type 0
-FileReport told words asked asked' out out' err err' = (before : List (List ℕ)) × (file : List ℕ) × GaveJobs told before × NamesFile words file × (asked' ≡ asked ++ (before ++ file ∷ [])) × Whole out out' err err' [] (cannot_read file)
-
--- A store fails only where the words ask to run and their files gave calls of a job: its count rose, or it was broken before.
-abbrev pub StoreFault : Holdings → List (List ℕ) → (old new : Meaning) → Type 0
-StoreFault told words old new = (file : List ℕ) × (calls : List ℕ) × AsksToRun words file calls × RunFailed told file calls old new
-
--- the count of faults of one of two sinks rose
-abbrev pub EitherRose : (outs outs' errs errs' : ℕ) → Type 0
-EitherRose outs outs' errs errs' = Rose outs outs' ⊎ Rose errs errs'
-
--- a status after which the store is as it was: neither 0 nor 7, 8 or 9
-abbrev pub EndsEarly : ℕ → Type 0
-EndsEarly status = (status ≢ 0) × (status ≢ 7) × (status ≢ 8) × (status ≢ 9)
+-- The words ask to run and the files gave calls of a job; the store's count rose, or it was broken before. Its line is all that was put.
+pub record StoreFault (words : List (List ℕ)) (before after : World) : Type 0 where
+  pub file : List ℕ
+  pub calls : List ℕ
+  pub asks : AsksToRun words file calls
+  pub failed : RunFailed file calls before.inputs after.inputs
+  pub put : Whole before.outputs after.outputs [] store_failed

@@ -1,5 +1,5 @@
 -- What the desk is for: the new program that it writes does what the old one did.
-use Rattle.std.specs.Prelude.{◌≡◌, ℕ, List, Option, Some}
+use Rattle.std.specs.Prelude.{◌≡◌, ℕ, List, Some}
 use Rattle.mig_schema.specs.declared.programs.Program.{Program}
 use Rattle.mig_schema.specs.declared.jobs.Job.{Job}
 use Rattle.mig_schema.specs.Typed.{IsTyped, IsTypedProgram}
@@ -7,12 +7,14 @@ use Rattle.mig_syntax.specs.Job.{IsJobText}
 use Rattle.mig_meaning.specs.Functions.{SameFunctions}
 use Rattle.mig_meaning.specs.Equivalent.{IsEquivalent}
 use Rattle.mig_certificate.specs.declared.proofs.Certificate.{Certificate}
-use Rattle.mig_certificate.specs.AnswerText.{answer_text}
+use Rattle.mig_answer.specs.AnswerText.{answer_text}
 use Rattle.mig_certificate.specs.Valid.{IsValid}
 use Rattle.mig_io.specs.Taken.{and_then}
+use Rattle.mig_messages.specs.declared.status.Status.TheVariants.{Done}
+use Rattle.mig_messages.specs.Statuses.{number}
+use Rattle.mig_cli.specs.World.{World}
 use Rattle.mig_cli.specs.Asked.{AsksToMigrate}
 use Rattle.mig_cli.specs.Desk.{Tells}
-use Rattle.mig_cli.specs.Jobs.{Holdings}
 use Rattle.mig_cli.specs.Spellable.{IsSpellable}
 
 -- A text is a migration of the job that these bytes spell: the answer with a new program and a certificate.
@@ -32,8 +34,9 @@ pub record IsMigration (bytes text : List ℕ) : Type 0 where
   pub valid : IsValid job program certificate
   pub equivalent : IsEquivalent job.source job.target job.program program certificate.invariants.list
 
--- Where files tell what they hold and the words ask to migrate: with status 0, `out` took a migration of the job in the file that the words name, whole.
-abbrev pub Migrates : (told : Holdings) → (words : List (List ℕ)) → (status : ℕ) → (out out' : Option (List ℕ)) → Type 0
-Migrates told words status out out' =
-    Tells told words → ((file : List ℕ) × AsksToMigrate words file) → status ≡ 0
-    → (file : List ℕ) × (bytes : List ℕ) × (text : List ℕ) × AsksToMigrate words file × (told file ≡ Some bytes) × (out' ≡ and_then out text) × IsMigration bytes text
+-- Where files tell what they hold and the words ask to migrate: with the status of what is done, `out` took a migration of the job in the file that the words name, whole.
+abbrev pub Migrates : List (List ℕ) → (before after : World) → ℕ → Type 0
+Migrates words before after result =
+    Tells before.inputs.files.told words → ((file : List ℕ) × AsksToMigrate words file) → result ≡ number Done
+    → (file : List ℕ) × (bytes : List ℕ) × (text : List ℕ) × AsksToMigrate words file × (before.inputs.files.told file ≡ Some bytes)
+    × (after.outputs.out.took ≡ and_then before.outputs.out.took text) × IsMigration bytes text

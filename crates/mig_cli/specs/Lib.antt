@@ -1,11 +1,11 @@
 pub mod Asked
-pub mod CallLines
 pub mod Desk
 pub mod Headline
 pub mod Jobs
-pub mod Lines
 pub mod Migrating
 pub mod Planned
+pub mod Plans
 pub mod Renaming
 pub mod Running
 pub mod Spellable
+pub mod World

@@ -4,10 +4,11 @@ ghost use Rattle.mig_cli.specs.Renaming as spec;
 
 use crate::columns::{columns_of_first, images};
 use crate::renaming::one_table;
+use mig_base::{Exact, Seq};
 use mig_certificate::{Certificate, Claim, Entry, PairProof};
 use mig_meaning::{Invariant, Invariants, View};
 use mig_rules::{Rule, Step};
-use mig_schema::{Body, Exact, Function, Job, Seq};
+use mig_schema::{Body, Function, Job};
 use std::alloc::{AllocError, Global};
 
 /// The old table's columns are their images.

@@ -1,32 +1,26 @@
 // Columns, and the columns that hints give them.
 ghost use Rattle.std.specs.Prelude.{◌≡◌, IfOk, map};
-ghost use Rattle.mig_schema.specs.Columns.{columns_of, columns_in, same_col};
-ghost use Rattle.mig_schema.specs.Lists.{numbered};
+ghost use Rattle.mig_schema.specs.Columns.{columns_in};
+ghost use Rattle.mig_base.specs.Lists.{numbered};
 ghost use Rattle.std.specs.Option.{option_copied};
 ghost use Rattle.mig_cli.specs.Renaming as spec;
 
-use mig_schema::{ColId, Column, Hint, Schema, Seq};
+use mig_base::{Seq, number};
+use mig_schema::{ColId, Column, Hint, Schema, columns_of, same_col};
 use std::alloc::{AllocError, Global};
-
-/// Whether two columns are one.
-pub fn is_same(left: ColId, right: ColId) -> bool
-    ensures { result ≡ same_col left right }
-{
-    left.table == right.table && left.column == right.column
-}
 
 /// The first hint that has the column left.
 fn hint_from(hints: &[Hint], column: ColId) -> Option<&Hint>
     ensures { option_copied result ≡ spec.hint_from hints.now column }
 {
-    hints.iter().find(|hint| is_same(hint.source, column))
+    hints.iter().find(|hint| same_col(hint.source, column))
 }
 
 /// The first hint that has the column right.
 fn hint_to(hints: &[Hint], column: ColId) -> Option<&Hint>
     ensures { option_copied result ≡ spec.hint_to hints.now column }
 {
-    hints.iter().find(|hint| is_same(hint.target, column))
+    hints.iter().find(|hint| same_col(hint.target, column))
 }
 
 /// The new column that the hints give an old one; the column itself where none does.
@@ -60,31 +54,11 @@ pub fn images(alloc: Global, hints: &[Hint], columns: &[ColId]) -> Result<Seq<Co
     Ok(list)
 }
 
-/// The columns of the first table.
-fn first_columns(schema: &Schema) -> &[Column]
-    ensures { result.now ≡ columns_of schema.now 0 }
-{
-    match schema.tables.as_slice() {
-        [table, ..] => table.columns.as_slice(),
-        [] => &[],
-    }
-}
-
 /// The columns of the first table by their numbers, in order.
 pub fn columns_of_first(alloc: Global, schema: &Schema) -> Result<Seq<ColId>, AllocError>
     ensures { IfOk result (λ list. list ≡ columns_in schema.now 0) }
 {
-    numbers_of(alloc, first_columns(schema))
-}
-
-/// The number as a u32; a list of 2^32 items counts as want of memory.
-fn number(n: usize) -> Result<u32, AllocError>
-    ensures { IfOk result (λ k. k ≡ n) }
-{
-    match u32::try_from(n) {
-        Ok(k) => Ok(k),
-        Err(_) => Err(AllocError),
-    }
+    numbers_of(alloc, columns_of(schema, 0))
 }
 
 /// The numbers of these columns of the first table.

@@ -1,30 +1,37 @@
 // How a call ends: both texts are put, or a sink fails.
-ghost use Rattle.std.specs.Prelude.{◌≡◌, ◌≢◌, ◌≤◌, ◌⊎◌, List, ℕ, Option};
-ghost use Rattle.mig_io.specs.Counts.{Rose};
-ghost use Rattle.mig_cli.specs.Desk.{Whole, Cut};
+ghost use Rattle.std.specs.Prelude.{◌≡◌, ◌≢◌, ◌≤◌, ◌⊎◌};
+ghost use Rattle.mig_cli.specs.Desk.{Cut, EitherRose, Whole};
+ghost use Rattle.mig_cli.specs.World.{outputs_of};
 
 use mig_io::{Sink, emit};
+use mig_messages::Status;
 
-/// Puts the text on `out` and then the report on `err`, and answers the status; 7 where a sink failed, and then nothing further is put.
+/// Puts the text on `out` and then the report on `err`, and answers the status; or that of a sink's fault, after which nothing further is put.
 pub fn finish<W: Sink, E: Sink>(
-    status: u8,
+    status: Status,
     out: &mut W,
     text: &[u8],
     err: &mut E,
     report: &[u8],
-) -> u8
-    requires { status ≢ 7 }
-    ensures status { (result ≡ status) ⊎ (result ≡ 7) }
-    ensures whole { result ≡ status → Whole (W.took out.old) (W.took out.new) (E.took err.old) (E.took err.new) text.now report.now }
-    ensures cut { result ≡ 7 → Cut (W.took out.old) (W.took out.new) (E.took err.old) (E.took err.new) text.now report.now }
-    ensures fault { result ≡ 7 → Rose (W.faults out.old) (W.faults out.new) ⊎ Rose (E.faults err.old) (E.faults err.new) }
+) -> Status
+    requires { status ≢ Status.Sink }
+    ensures status { (result ≡ status) ⊎ (result ≡ Status.Sink) }
+    ensures whole { let before = outputs_of W.Sink E.Sink out.old err.old in
+        let after = outputs_of W.Sink E.Sink out.new err.new in
+        result ≡ status → Whole before after text.now report.now }
+    ensures cut { let before = outputs_of W.Sink E.Sink out.old err.old in
+        let after = outputs_of W.Sink E.Sink out.new err.new in
+        result ≡ Status.Sink → Cut before after text.now report.now }
+    ensures fault { let before = outputs_of W.Sink E.Sink out.old err.old in
+        let after = outputs_of W.Sink E.Sink out.new err.new in
+        result ≡ Status.Sink → EitherRose before after }
     ensures out_later { W.faults out.old ≤ W.faults out.new }
     ensures err_later { E.faults err.old ≤ E.faults err.new }
 {
     match emit(out, text) {
-        Err(_) => 7,
+        Err(_) => Status::Sink,
         Ok(()) => match emit(err, report) {
-            Err(_) => 7,
+            Err(_) => Status::Sink,
             Ok(()) => status,
         },
     }

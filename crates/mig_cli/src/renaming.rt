@@ -3,9 +3,10 @@ ghost use Rattle.std.specs.Prelude.{◌≡◌, IfOk, map};
 ghost use Rattle.std.specs.Option.{option_copied};
 ghost use Rattle.mig_cli.specs.Renaming as spec;
 
-use crate::columns::{columns_of_first, images, is_same, origin};
+use crate::columns::{columns_of_first, images, origin};
+use mig_base::{Exact, Seq};
 use mig_schema::{
-    Assign, Body, ColId, Exact, Function, Hint, Job, Join, Program, Query, Scalar, Seq, Stmt,
+    Assign, Body, ColId, Function, Hint, Job, Join, Program, Query, Scalar, Stmt, same_col,
 };
 use std::alloc::{AllocError, Global};
 
@@ -23,7 +24,7 @@ pub fn one_table(alloc: Global) -> Join
 fn assign_to(values: &[Assign], column: ColId) -> Option<&Assign>
     ensures { option_copied result ≡ spec.assign_to values.now column }
 {
-    values.iter().find(|assign| is_same(assign.column, column))
+    values.iter().find(|assign| same_col(assign.column, column))
 }
 
 /// The value that an insert writes into a column.

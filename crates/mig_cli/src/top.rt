@@ -1,41 +1,42 @@
 // The desk itself: the plan for the words, and then its texts put.
-ghost use Rattle.std.specs.Prelude.{◌≡◌, ◌≢◌, ◌≤◌, ◌++◌, [], List, ℕ, IfOk};
-ghost use Rattle.mig_io.specs.Counts.{Rose};
-ghost use Rattle.mig_stores.specs.Meaning.{IsAtRest};
+ghost use Rattle.std.specs.Prelude.{◌≡◌, ◌≢◌, ◌≤◌, [], IfOk};
+ghost use Rattle.mig_storage.specs.Meaning.{IsAtRest};
 ghost use Rattle.mig_words.specs.declared.command.WordFault.TheVariants as word;
-ghost use Rattle.mig_playing.specs.Playing.{Lasts};
+ghost use Rattle.mig_store.specs.Playing.{Lasts};
+ghost use Rattle.mig_messages.specs.Lines as lines;
+ghost use Rattle.mig_messages.specs.Statuses.{number};
 ghost use Rattle.mig_cli.specs.Asked as asked;
 ghost use Rattle.mig_cli.specs.Desk as spec;
-ghost use Rattle.mig_cli.specs.Lines as lines;
-ghost use Rattle.mig_cli.specs.CallLines.{store_failed};
 ghost use Rattle.mig_cli.specs.Headline.{Migrates};
+ghost use Rattle.mig_cli.specs.Plans as plans;
 ghost use Rattle.mig_cli.specs.Running.{IsLeft};
+ghost use Rattle.mig_cli.specs.World.{inputs_of, outputs_of, world_of};
 
 use crate::ending::finish;
-use crate::lines::words_line;
 use crate::migrating::migrated_plan;
 use crate::planning::{Plan, refusal};
 use crate::running::run_plan;
+use mig_base::{Seq, Word};
 use mig_io::{Files, Sink};
-use mig_schema::{Seq, Word};
-use mig_stores::Store;
+use mig_messages::{Status, no_memory, unbuilt_words, words_line};
+use mig_storage::Store;
 use mig_words::{Command, WordFault, read_words};
 use std::alloc::{AllocError, Global};
 
 /// The plan for words that are no command.
 fn refused_plan(alloc: Global, fault: WordFault) -> Result<Plan, AllocError>
-    ensures { IfOk result (λ p. (fault ≢ word.Memory) × (p.status ≡ 1) × (p.text ≡ []) × (p.report ≡ lines.refused_words fault)) }
+    ensures { IfOk result (λ p. (fault ≢ word.Memory) × (p ≡ plans.refusal Status.Words (lines.refused_words fault))) }
 {
     let report = words_line(alloc, fault)?;
-    Ok(refusal(alloc, 1, report))
+    Ok(refusal(alloc, Status::Words, report))
 }
 
 /// The plan for a command whose work is not there yet.
 fn unbuilt_plan(alloc: Global) -> Result<Plan, AllocError>
-    ensures { IfOk result (λ p. (p.status ≡ 1) × (p.text ≡ []) × (p.report ≡ lines.unbuilt_words)) }
+    ensures { IfOk result (λ p. p ≡ plans.refusal Status.Words lines.unbuilt_words) }
 {
-    let report = Seq::from_slice(alloc, b"words: not built\n")?;
-    Ok(refusal(alloc, 1, report))
+    let report = Seq::from_slice(alloc, unbuilt_words().as_bytes())?;
+    Ok(refusal(alloc, Status::Words, report))
 }
 
 /// What is to be put for the words.
@@ -46,9 +47,13 @@ fn plan<F: Files, S: Store>(
     store: &mut S,
 ) -> Result<Plan, AllocError>
     requires rest { IsAtRest (S.meaning store.old) }
-    ensures due { IfOk result (λ p. (names : List (List ℕ)) × (F.asked files.new ≡ F.asked files.old ++ names) × spec.IsDue (F.told files.old) words.now names (F.faults files.old) (F.faults files.new) (S.meaning store.old) (S.meaning store.new) p.status p.text p.report) }
-    ensures refused { IfOk result (λ p. p.status ≡ 1 → asked.AsksForNothing words.now) }
-    ensures left { IsLeft (F.told files.old) words.now (S.meaning store.old) (S.meaning store.new) }
+    ensures due { let before = inputs_of F.Files S.Store files.old store.old in
+        let after = inputs_of F.Files S.Store files.new store.new in
+        IfOk result (spec.IsDue words.now before after) }
+    ensures refused { IfOk result (λ p. p.status ≡ Status.Words → asked.AsksForNothing words.now) }
+    ensures left { let before = inputs_of F.Files S.Store files.old store.old in
+        let after = inputs_of F.Files S.Store files.new store.new in
+        IsLeft words.now before after }
     ensures asked { asked.AskedFirst words.now (F.asked files.old) (F.asked files.new) }
     ensures told { F.told files.new ≡ F.told files.old }
     ensures later { F.faults files.old ≤ F.faults files.new }
@@ -69,7 +74,7 @@ fn plan<F: Files, S: Store>(
     }
 }
 
-/// Does what the words say, puts an answer on `out` and a report on `err`, and answers the status.
+/// Does what the words say, puts an answer on `out` and a report on `err`, and answers the number of its status (`Status`).
 ///
 /// The words are those of a command line without the program's name (`read_words`). The commands whose work is there are
 /// `migrate FILE`, with its options, and `run FILE CALLS`; FILE holds a job (`read_job`), and CALLS calls of its program
@@ -110,24 +115,37 @@ pub fn desk<F: Files, W: Sink, E: Sink, S: Store>(
 ) -> u8
     requires rest { IsAtRest (S.meaning store.old) }
     // Where it migrates and ends with 0, `out` took a new program that does what the old one did, and a valid certificate of it.
-    ensures migrates { Migrates (F.told files.old) words.now result (W.took out.old) (W.took out.new) }
+    ensures migrates { let before = world_of F.Files W.Sink E.Sink S.Store files.old out.old err.old store.old in
+        let after = world_of F.Files W.Sink E.Sink S.Store files.new out.new err.new store.new in
+        Migrates words.now before after result }
     // Right answers: whatever failed, a status other than 6, 7, 8 and 9 is the outcome's, which was put whole.
-    ensures right { spec.Right (F.told files.old) words.now (F.asked files.old) (F.asked files.new) (S.meaning store.old) (S.meaning store.new) result (W.took out.old) (W.took out.new) (E.took err.old) (E.took err.new) }
+    ensures right { let before = world_of F.Files W.Sink E.Sink S.Store files.old out.old err.old store.old in
+        let after = world_of F.Files W.Sink E.Sink S.Store files.new out.new err.new store.new in
+        spec.Right words.now before after result }
     // Completeness: where nothing failed, the outcome was put whole, unless memory ran out.
-    ensures complete { spec.Complete (F.told files.old) words.now (F.asked files.old) (F.asked files.new) (F.faults files.old) (F.faults files.new) (W.faults out.old) (W.faults out.new) (E.faults err.old) (E.faults err.new) (S.meaning store.old) (S.meaning store.new) result (W.took out.old) (W.took out.new) (E.took err.old) (E.took err.new) }
+    ensures complete { let before = world_of F.Files W.Sink E.Sink S.Store files.old out.old err.old store.old in
+        let after = world_of F.Files W.Sink E.Sink S.Store files.new out.new err.new store.new in
+        spec.Complete words.now before after result }
     // Words are refused for no other reason.
-    ensures refused { result ≡ 1 → asked.AsksForNothing words.now }
-    ensures file_fault { result ≡ 6 → Rose (F.faults files.old) (F.faults files.new) }
-    ensures sink_fault { result ≡ 7 → spec.EitherRose (W.faults out.old) (W.faults out.new) (E.faults err.old) (E.faults err.new) }
-    ensures store_fault { result ≡ 9 → spec.StoreFault (F.told files.old) words.now (S.meaning store.old) (S.meaning store.new) }
+    ensures refused { result ≡ number Status.Words → asked.AsksForNothing words.now }
     // After a fault of a file or of the store, or want of memory, nothing is on `out`, and one line on `err`.
-    ensures file_report { result ≡ 6 → spec.FileReport (F.told files.old) words.now (F.asked files.old) (F.asked files.new) (W.took out.old) (W.took out.new) (E.took err.old) (E.took err.new) }
-    ensures memory_report { result ≡ 8 → spec.Whole (W.took out.old) (W.took out.new) (E.took err.old) (E.took err.new) [] lines.no_memory }
-    ensures store_report { result ≡ 9 → spec.Whole (W.took out.old) (W.took out.new) (E.took err.old) (E.took err.new) [] store_failed }
+    ensures file_fault { let before = world_of F.Files W.Sink E.Sink S.Store files.old out.old err.old store.old in
+        let after = world_of F.Files W.Sink E.Sink S.Store files.new out.new err.new store.new in
+        result ≡ number Status.File → spec.FileFault words.now before after }
+    ensures memory_fault { let before = outputs_of W.Sink E.Sink out.old err.old in
+        let after = outputs_of W.Sink E.Sink out.new err.new in
+        result ≡ number Status.Memory → spec.Whole before after [] lines.no_memory }
+    ensures store_fault { let before = world_of F.Files W.Sink E.Sink S.Store files.old out.old err.old store.old in
+        let after = world_of F.Files W.Sink E.Sink S.Store files.new out.new err.new store.new in
+        result ≡ number Status.Store → spec.StoreFault words.now before after }
     // After a sink's fault `out` has a prefix of its text, and `err` nothing unless `out` has all of it.
-    ensures cut { result ≡ 7 → spec.CutShort (F.told files.old) words.now (F.asked files.old) (F.asked files.new) (F.faults files.old) (F.faults files.new) (S.meaning store.old) (S.meaning store.new) (W.took out.old) (W.took out.new) (E.took err.old) (E.took err.new) }
+    ensures sink_fault { let before = world_of F.Files W.Sink E.Sink S.Store files.old out.old err.old store.old in
+        let after = world_of F.Files W.Sink E.Sink S.Store files.new out.new err.new store.new in
+        result ≡ number Status.Sink → spec.SinkFault words.now before after }
     // The store is left alone, or as the first calls left it that the words ask to run, or broken.
-    ensures left { IsLeft (F.told files.old) words.now (S.meaning store.old) (S.meaning store.new) }
+    ensures left { let before = inputs_of F.Files S.Store files.old store.old in
+        let after = inputs_of F.Files S.Store files.new store.new in
+        IsLeft words.now before after }
     ensures alone { asked.AsksForNoRun words.now → S.meaning store.new ≡ S.meaning store.old }
     ensures spared { spec.EndsEarly result → S.meaning store.new ≡ S.meaning store.old }
     ensures lasts { Lasts (S.meaning store.old) (S.meaning store.new) }
@@ -143,7 +161,8 @@ pub fn desk<F: Files, W: Sink, E: Sink, S: Store>(
             plan.text.as_slice(),
             err,
             plan.report.as_slice(),
-        ),
-        Err(AllocError) => finish(8, out, &[], err, b"out of memory\n"),
+        )
+        .number(),
+        Err(AllocError) => finish(Status::Memory, out, &[], err, no_memory().as_bytes()).number(),
     }
 }

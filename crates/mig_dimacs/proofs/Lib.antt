@@ -1,5 +1,4 @@
 pub mod Balance
-pub mod Digits
 pub mod Ending
 pub mod Fronts
 pub mod InRange

@@ -1,25 +1,17 @@
 -- The words of a text, and the tokens that they are, each with its line.
-use Rattle.std.specs.Prelude.{ℕ, ◌+◌, ◌-◌, ◌*◌, Bool, true, false, ◌&&◌, ◌||◌, ◌==◌, nat_le, nat_lt, if◌then◌else◌, List, [], ◌∷◌, ◌++◌, length, codes}
+use Rattle.std.specs.Prelude.{ℕ, ◌+◌, Bool, true, false, ◌&&◌, ◌||◌, ◌==◌, nat_le, nat_lt, if◌then◌else◌, List, [], ◌∷◌, ◌++◌, length, codes}
 use Rattle.std.specs.List.{list_all}
 use Rattle.std.specs.Str.{bytes_eq}
+use Rattle.mig_base.specs.Digits.{digits_from, is_digit}
 use Rattle.mig_dimacs.specs.declared.token.Token.{Token}
 use Rattle.mig_dimacs.specs.declared.token.Token.TheVariants.{Problem, Plain, Weighted, Number, Other, End}
 use Rattle.mig_dimacs.specs.declared.token.Piece.{Piece}
 use Rattle.mig_dimacs.specs.declared.token.Spot.{Spot}
 use Rattle.mig_dimacs.specs.declared.token.Spot.TheVariants.{Start, Inside, Comment}
 
--- 0 to 9
-abbrev pub is_digit : ℕ → Bool
-is_digit b = nat_le 48 b && nat_le b 57
-
 -- a space, tab or carriage return; a line feed ends the line
 abbrev pub is_blank : ℕ → Bool
 is_blank b = (b == 32) || ((b == 9) || (b == 13))
-
--- the number that decimal digits spell behind digits that spell n
-abbrev pub digits_from : ℕ → List ℕ → ℕ
-digits_from n [] = n
-digits_from n (b ∷ bs) = digits_from (10 * n + (b - 48)) bs
 
 -- the greatest absolute value that is read, that of a u64
 abbrev pub most : ℕ

@@ -8,8 +8,8 @@ ghost use Rattle.mig_dimacs.specs.Words.{pieces_of};
 use crate::fault::ReadError;
 use crate::formulas::read_cnf;
 use itoa::Buffer;
+use mig_base::{Seq, Txt};
 use mig_sat::{Cnf, Model, solve};
-use mig_schema::{Seq, Txt};
 use std::alloc::{AllocError, Global};
 
 /// Appends a text as it is.

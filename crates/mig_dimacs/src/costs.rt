@@ -7,9 +7,9 @@ ghost use Rattle.mig_dimacs.specs.declared.soft.SoftLit.{SoftLit as Soft};
 
 use crate::gains::weights_of;
 use crate::soft::{SoftLit, Wcnf};
+use mig_base::Exact;
 use mig_maxsat::{Weighted, best};
 use mig_sat::{Model, SatLit};
-use mig_schema::Exact;
 use std::alloc::{AllocError, Global};
 
 /// Whether the values make the literal true.

@@ -9,8 +9,8 @@ use crate::fault::ReadError;
 use crate::reading::read_text;
 use crate::text::Text;
 use crate::token::Number;
+use mig_base::Seq;
 use mig_sat::{Cnf, SatLit};
-use mig_schema::Seq;
 use std::alloc::{AllocError, Global};
 
 /// The literal that a number is.

@@ -6,7 +6,7 @@ ghost use Rattle.mig_dimacs.specs.Gains as spec;
 ghost use Rattle.mig_dimacs.specs.Gains.{IsBalanced};
 
 use crate::soft::{SoftLit, Wcnf};
-use mig_schema::Seq;
+use mig_base::Seq;
 use std::alloc::{AllocError, Global};
 
 /// How much less it costs where the literal's variable is true.

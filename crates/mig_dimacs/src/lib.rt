@@ -12,8 +12,6 @@ mod place;
 mod reader;
 mod reading;
 mod soft;
-#[cfg(test)]
-mod tests;
 mod text;
 mod token;
 mod words;

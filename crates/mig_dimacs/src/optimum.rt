@@ -11,7 +11,7 @@ use crate::costs::{cheapest, cost};
 use crate::fault::ReadError;
 use crate::soft::{Wcnf, read_wcnf};
 use itoa::Buffer;
-use mig_schema::{Seq, Txt};
+use mig_base::{Seq, Txt};
 use std::alloc::{AllocError, Global};
 
 /// What the values cost, and their line.

@@ -7,7 +7,7 @@ ghost use Rattle.mig_dimacs.specs.declared.place.Place.TheVariants as at;
 use crate::place::{Place, is_clause, may_come, next_place, next_soft};
 use crate::text::{Head, Text};
 use crate::token::{Number, Token};
-use mig_schema::Seq;
+use mig_base::Seq;
 use std::alloc::{AllocError, Global};
 use std::mem;
 

@@ -11,8 +11,8 @@ use crate::formulas::{lit_of, lits_of};
 use crate::reading::read_text;
 use crate::text::Text;
 use crate::token::Number;
+use mig_base::Seq;
 use mig_sat::{Cnf, SatLit};
-use mig_schema::Seq;
 use std::alloc::{AllocError, Global};
 
 /// A literal that may be false, and what that costs.

@@ -1,6 +1,6 @@
 // What a text says: a header, and clauses as numbers.
 use crate::token::Number;
-use mig_schema::Seq;
+use mig_base::Seq;
 
 /// The header of a text. With a `top`, clauses have weights, and one that weighs as much is hard.
 #[derive(Debug, Clone, Copy, PartialEq, Eq)]

@@ -6,7 +6,7 @@ use Rattle.mig_schema.specs.declared.programs.Op.{Op}
 use Rattle.mig_schema.specs.declared.programs.Op.TheVariants as op
 use Rattle.mig_tokens.specs.declared.token.Token.{Token}
 use Rattle.mig_tokens.specs.declared.token.Token.TheVariants.{Word, Sign}
-use Rattle.mig_tokens.specs.declared.fault.Limit.TheVariants as limit
+use Rattle.mig_schema.specs.declared.limits.Limit.TheVariants as limit
 use Rattle.mig_tokens.specs.Marked.{Marked, bare, head, first_is}
 use Rattle.mig_tokens.specs.Forms.{Before, sign, word, led, AllOfSome}
 use Rattle.mig_tokens.specs.Limits.{over, full}

@@ -3,7 +3,7 @@ use Rattle.std.proofs.Common.{◌≡◌, List, [], ◌∷◌, ◌++◌, length, 
 use Rattle.mig_schema.specs.declared.tables.Table.{Table}
 use Rattle.mig_tokens.specs.declared.token.Token.{Token}
 use Rattle.mig_tokens.specs.declared.token.Token.TheVariants.{End}
-use Rattle.mig_tokens.specs.declared.fault.Limit.{Limit}
+use Rattle.mig_schema.specs.declared.limits.Limit.{Limit}
 use Rattle.mig_tokens.specs.Marked.{Marked, bare}
 use Rattle.mig_tokens.specs.Forms.{Before, start, no_room, word, sign, numbered, listed}
 use Rattle.mig_grammar.specs.declared.tree.SchemaTree.{SchemaTree}

@@ -6,7 +6,7 @@ use Rattle.mig_schema.specs.declared.tables.Kind.{Kind}
 use Rattle.mig_schema.specs.declared.programs.Param.{Param}
 use Rattle.mig_tokens.specs.declared.token.Token.{Token}
 use Rattle.mig_tokens.specs.declared.token.Token.TheVariants.{Word, Sign}
-use Rattle.mig_tokens.specs.declared.fault.Limit.TheVariants as limit
+use Rattle.mig_schema.specs.declared.limits.Limit.TheVariants as limit
 use Rattle.mig_tokens.specs.Marked.{Marked, bare, head as first, first_is}
 use Rattle.mig_tokens.specs.Forms.{Before, start, no_room, name, sign, listed, led, numbered, AllOfSome}
 use Rattle.mig_tokens.specs.Limits.{over, first_of, name_mark}

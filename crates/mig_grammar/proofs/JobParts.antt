@@ -4,7 +4,7 @@ use Rattle.std.specs.List.{AllByRecursion}
 use Rattle.std.proofs.lemmas.List.{append-nil}
 use Rattle.mig_tokens.specs.declared.token.Token.{Token}
 use Rattle.mig_tokens.specs.declared.token.Token.TheVariants.{Word, Int, Sign, End}
-use Rattle.mig_tokens.specs.declared.fault.Limit.TheVariants as limit
+use Rattle.mig_schema.specs.declared.limits.Limit.TheVariants as limit
 use Rattle.mig_tokens.specs.Marked.{bare, head, first_is}
 use Rattle.mig_tokens.specs.Forms.{Before, start, no_room, word, numbered}
 use Rattle.mig_tokens.specs.Limits.{over}

@@ -7,8 +7,8 @@ use Rattle.mig_schema.specs.declared.tables.Column.{Column}
 use Rattle.mig_schema.specs.declared.tables.Table.{Table}
 use Rattle.mig_tokens.specs.declared.token.Token.{Token}
 use Rattle.mig_tokens.specs.declared.token.Token.TheVariants.{Word, Sign}
-use Rattle.mig_tokens.specs.declared.fault.Limit.{Limit}
-use Rattle.mig_tokens.specs.declared.fault.Limit.TheVariants as limit
+use Rattle.mig_schema.specs.declared.limits.Limit.{Limit}
+use Rattle.mig_schema.specs.declared.limits.Limit.TheVariants as limit
 use Rattle.mig_tokens.specs.Marked.{Marked, bare, head}
 use Rattle.mig_tokens.specs.Forms.{Before, start, no_room, listed, numbered, AllOfSome}
 use Rattle.mig_tokens.specs.Limits.{over, first_of, name_mark}

@@ -2,7 +2,7 @@
 use Rattle.std.proofs.Common.{◌≡◌, List, [], ◌∷◌, ◌++◌, None, codes, refl, ap, ◌∙◌}
 use Rattle.std.proofs.lemmas.List.{append-nil}
 use Rattle.mig_tokens.specs.declared.token.Token.TheVariants.{Word}
-use Rattle.mig_tokens.specs.declared.fault.Limit.TheVariants as limit
+use Rattle.mig_schema.specs.declared.limits.Limit.TheVariants as limit
 use Rattle.mig_tokens.specs.Marked.{Marked}
 use Rattle.mig_tokens.specs.Forms.{Before, start, no_room, word, listed, AllOfSome}
 use Rattle.mig_tokens.specs.Limits.{over}

@@ -3,7 +3,7 @@ use Rattle.std.proofs.Common.{◌≡◌, ℕ, Bool, true, false, List, [], ◌�
 use Rattle.std.proofs.lemmas.List.{append-nil}
 use Rattle.mig_tokens.specs.declared.token.Token.{Token}
 use Rattle.mig_tokens.specs.declared.token.Token.TheVariants.{Word, Sign}
-use Rattle.mig_tokens.specs.declared.fault.Limit.TheVariants as limit
+use Rattle.mig_schema.specs.declared.limits.Limit.TheVariants as limit
 use Rattle.mig_tokens.specs.Marked.{Marked, bare, head, first_is}
 use Rattle.mig_tokens.specs.Forms.{Before, start, no_room, sign, word, listed, led, AllOfSome}
 use Rattle.mig_tokens.specs.Limits.{over, first_of}

@@ -2,7 +2,7 @@
 use Rattle.std.proofs.Common.{◌≡◌, ℕ, Bool, true, false, List, [], ◌∷◌, ◌++◌, Option, None, codes, ◌⊎◌, inl, inr, refl, sym, ap, ◌∙◌}
 use Rattle.mig_tokens.specs.declared.token.Token.{Token}
 use Rattle.mig_tokens.specs.declared.token.Token.TheVariants.{Word, Int, Sign}
-use Rattle.mig_tokens.specs.declared.fault.Limit.{Limit}
+use Rattle.mig_schema.specs.declared.limits.Limit.{Limit}
 use Rattle.mig_tokens.specs.Marked.{Marked, bare, head, first_is}
 use Rattle.mig_tokens.specs.Forms.{name, sign, word}
 use Rattle.mig_tokens.specs.Limits.{first_of, name_mark}

@@ -1,8 +1,8 @@
 -- Reading of values, conditions and joins.
 use Rattle.std.specs.Prelude.{ℕ, List, [], length, codes, Option, None}
 use Rattle.mig_tokens.specs.declared.token.Token.{Token}
-use Rattle.mig_tokens.specs.declared.fault.Limit.{Limit}
-use Rattle.mig_tokens.specs.declared.fault.Limit.TheVariants as limit
+use Rattle.mig_schema.specs.declared.limits.Limit.{Limit}
+use Rattle.mig_schema.specs.declared.limits.Limit.TheVariants as limit
 use Rattle.mig_tokens.specs.Reading.{Read, Took, ◌>>=◌, give, choice_at, many_at, led_at}
 use Rattle.mig_tokens.specs.Forms.{Before, no_room}
 use Rattle.mig_tokens.specs.Limits.{over, full}

@@ -2,7 +2,7 @@
 use Rattle.std.specs.Prelude.{ℕ, Bool, true, cond, List, [], codes, None}
 use Rattle.mig_schema.specs.declared.programs.Param.{Param}
 use Rattle.mig_tokens.specs.declared.token.Token.{Token}
-use Rattle.mig_tokens.specs.declared.fault.Limit.TheVariants as limit
+use Rattle.mig_schema.specs.declared.limits.Limit.TheVariants as limit
 use Rattle.mig_tokens.specs.Reading.{Read, Took, ◌>>=◌, give, choice_at, many_at, led_at}
 use Rattle.mig_tokens.specs.Forms.{Before, start, no_room}
 use Rattle.mig_tokens.specs.Limits.{over}

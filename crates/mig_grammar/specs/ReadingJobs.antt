@@ -1,7 +1,7 @@
 -- Reading of whole texts.
 use Rattle.std.specs.Prelude.{List, codes, Option, Some, None}
 use Rattle.mig_tokens.specs.declared.token.Token.{Token}
-use Rattle.mig_tokens.specs.declared.fault.Limit.TheVariants as limit
+use Rattle.mig_schema.specs.declared.limits.Limit.TheVariants as limit
 use Rattle.mig_tokens.specs.Reading.{Read, Took, ◌>>=◌, give, choice_at, many_at}
 use Rattle.mig_tokens.specs.Forms.{Before, start, no_room}
 use Rattle.mig_tokens.specs.Limits.{over}

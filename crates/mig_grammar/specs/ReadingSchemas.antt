@@ -3,8 +3,8 @@ use Rattle.std.specs.Prelude.{List, codes, Option, None}
 use Rattle.mig_schema.specs.declared.tables.Column.{Column}
 use Rattle.mig_schema.specs.declared.tables.Table.{Table}
 use Rattle.mig_tokens.specs.declared.token.Token.{Token}
-use Rattle.mig_tokens.specs.declared.fault.Limit.{Limit}
-use Rattle.mig_tokens.specs.declared.fault.Limit.TheVariants as limit
+use Rattle.mig_schema.specs.declared.limits.Limit.{Limit}
+use Rattle.mig_schema.specs.declared.limits.Limit.TheVariants as limit
 use Rattle.mig_tokens.specs.Reading.{Read, Took, ◌>>=◌, many_at}
 use Rattle.mig_tokens.specs.Forms.{Before, start, no_room}
 use Rattle.mig_tokens.specs.Limits.{over}

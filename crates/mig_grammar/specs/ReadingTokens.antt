@@ -7,7 +7,7 @@ use Rattle.mig_schema.specs.declared.programs.Op.{Op}
 use Rattle.mig_schema.specs.declared.programs.Op.TheVariants as op
 use Rattle.mig_tokens.specs.declared.token.Token.{Token}
 use Rattle.mig_tokens.specs.declared.token.Token.TheVariants.{Word, Int, Text, Sign}
-use Rattle.mig_tokens.specs.declared.fault.Limit.{Limit}
+use Rattle.mig_schema.specs.declared.limits.Limit.{Limit}
 use Rattle.mig_tokens.specs.Reading.{Read, token_at}
 use Rattle.mig_tokens.specs.Words.{is_reserved}
 use Rattle.mig_tokens.specs.Limits.{first_of}

@@ -11,8 +11,8 @@ use Rattle.mig_schema.specs.declared.programs.Param.{Param}
 use Rattle.mig_schema.specs.Columns.{same_kind}
 use Rattle.mig_tokens.specs.declared.token.Token.TheVariants.{Word, Int, Text, End}
 use Rattle.mig_tokens.specs.declared.token.Token.{Token}
-use Rattle.mig_tokens.specs.declared.fault.Limit.{Limit}
-use Rattle.mig_tokens.specs.declared.fault.Limit.TheVariants as limit
+use Rattle.mig_schema.specs.declared.limits.Limit.{Limit}
+use Rattle.mig_schema.specs.declared.limits.Limit.TheVariants as limit
 use Rattle.mig_tokens.specs.Marked.{Marked}
 use Rattle.mig_tokens.specs.Numbers.{weight_of, is_label}
 use Rattle.mig_tokens.specs.Limits.{over, full, first_of, name_mark, int_mark, text_mark}

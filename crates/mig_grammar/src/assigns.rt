@@ -8,7 +8,7 @@ ghost use Rattle.mig_tokens.specs.Given.{Gives};
 use crate::columns::col_of;
 use crate::conditions::value_of;
 use crate::tree::{AssignTree, Jobs};
-use mig_schema::{Seq, Txt};
+use mig_base::{Seq, Txt};
 use mig_tokens::{Item, ReadError, Token, after_sign, is_sign, led_of, name_of};
 use std::alloc::Global;
 

@@ -4,7 +4,8 @@ ghost use Rattle.mig_grammar.specs.ReadingSchemas.{col_at};
 ghost use Rattle.mig_tokens.specs.Given.{Gives};
 
 use crate::tree::ColName;
-use mig_tokens::{Limit, ReadError, Token, after_sign, name_of};
+use mig_schema::Limit;
+use mig_tokens::{ReadError, Token, after_sign, name_of};
 use std::alloc::Global;
 
 /// A column, which may pass a limit at its first name.

@@ -9,10 +9,10 @@ ghost use Rattle.mig_tokens.specs.Given.{Gives};
 use crate::kinds::op_of;
 use crate::scalars::{scalar_of, written_label};
 use crate::tree::{CmpTree, ColName, ItemTree, Jobs, ScalarTree, ValueTree};
-use mig_schema::{Seq, Txt};
+use mig_base::{Seq, Txt};
+use mig_schema::Limit;
 use mig_tokens::{
-    Item, Limit, ReadError, Token, after_sign, after_word, full, is_sign, is_word, led_of, name_of,
-    over,
+    Item, ReadError, Token, after_sign, after_word, full, is_sign, is_word, led_of, name_of, over,
 };
 use std::alloc::Global;
 

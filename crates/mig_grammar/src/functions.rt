@@ -11,10 +11,9 @@ use crate::kinds::param_kind_of;
 use crate::selects::select_of;
 use crate::statements::stmts_of;
 use crate::tree::{BodyTree, FunctionTree, Jobs};
-use mig_schema::{Param, Seq};
-use mig_tokens::{
-    Item, Limit, ReadError, Token, after_sign, is, is_sign, is_word, led_of, name_of, over,
-};
+use mig_base::Seq;
+use mig_schema::{Limit, Param};
+use mig_tokens::{Item, ReadError, Token, after_sign, is, is_sign, is_word, led_of, name_of, over};
 use std::alloc::Global;
 
 /// The two sorts of functions.

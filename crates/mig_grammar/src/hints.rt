@@ -8,8 +8,9 @@ ghost use Rattle.mig_grammar.specs.ReadingJobs.{hint_at, some_hints_at, hints_at
 use crate::columns::col_of;
 use crate::scalars::written_weight;
 use crate::tree::{HintTree, Jobs};
-use mig_schema::Seq;
-use mig_tokens::{Item, Limit, ReadError, Token, after_sign, after_word, is_word, many_of, over};
+use mig_base::Seq;
+use mig_schema::Limit;
+use mig_tokens::{Item, ReadError, Token, after_sign, after_word, is_word, many_of, over};
 use std::alloc::Global;
 
 impl Item<Jobs> for HintTree {

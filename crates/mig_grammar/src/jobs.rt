@@ -1,6 +1,6 @@
 // Reading of whole jobs.
 ghost use Rattle.std.specs.Prelude.{◌≡◌, ℕ, ◌<◌, length, Ok, Err, ◌⊎◌, IfOk};
-ghost use Rattle.mig_tokens.specs.declared.fault.Limit.{Limit};
+ghost use Rattle.mig_schema.specs.declared.limits.Limit.{Limit};
 ghost use Rattle.mig_tokens.specs.declared.fault.Misread.TheVariants as Misread;
 ghost use Rattle.mig_tokens.specs.Given.{Gives};
 ghost use Rattle.mig_tokens.specs.Refused.{StandsWrong, StandsPast, IsPlacedAnswer};

@@ -8,9 +8,8 @@ ghost use Rattle.mig_tokens.specs.Given.{Gives};
 use crate::columns::col_of;
 use crate::conditions::where_of;
 use crate::tree::{Jobs, JoinTree, JoinedTree, RowsTree};
-use mig_tokens::{
-    Item, Limit, ReadError, Token, after_sign, after_word, is_word, many_of, name_of, over,
-};
+use mig_schema::Limit;
+use mig_tokens::{Item, ReadError, Token, after_sign, after_word, is_word, many_of, name_of, over};
 use std::alloc::Global;
 
 impl Item<Jobs> for JoinedTree {

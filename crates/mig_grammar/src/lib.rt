@@ -15,12 +15,9 @@ mod scalars;
 mod schemas;
 mod selects;
 mod statements;
-#[cfg(test)]
-mod tests;
 mod tree;
 
 pub use jobs::read_tree;
-pub use mig_tokens::{Limit, Misread};
 pub use programs::read_functions;
 pub use tree::{
     AssignTree, BodyTree, CmpTree, ColName, FunctionTree, HintTree, ItemTree, JobTree, JoinTree,

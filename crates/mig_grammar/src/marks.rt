@@ -5,8 +5,8 @@ ghost use Rattle.mig_schema.specs.declared.tables.Kind.TheVariants.{Key};
 ghost use Rattle.mig_grammar.specs.Spelling as spell;
 
 use crate::tree::ScalarTree;
-use mig_schema::Kind;
-use mig_tokens::{Limit, first_of, full, int_limit, is_label, name_limit, text_limit, weight_of};
+use mig_schema::{Kind, Limit};
+use mig_tokens::{first_of, full, int_limit, is_label, name_limit, text_limit, weight_of};
 
 /// Whether this is the kind of keys.
 pub(crate) fn is_key_kind(kind: Kind) -> bool

@@ -1,6 +1,6 @@
 // Reading of programs alone.
 ghost use Rattle.std.specs.Prelude.{◌≡◌, ℕ, ◌<◌, List, length, Ok, Err, ◌⊎◌, IfOk};
-ghost use Rattle.mig_tokens.specs.declared.fault.Limit.{Limit};
+ghost use Rattle.mig_schema.specs.declared.limits.Limit.{Limit};
 ghost use Rattle.mig_tokens.specs.declared.fault.Misread.TheVariants as Misread;
 ghost use Rattle.mig_tokens.specs.Given.{Gives};
 ghost use Rattle.mig_tokens.specs.Refused.{StandsWrong, StandsPast, IsPlacedAnswer};
@@ -11,7 +11,7 @@ ghost use Rattle.mig_grammar.specs.Shapes.{AreFunctions};
 ghost use Rattle.mig_grammar.specs.Texts.{IsFunctionsText};
 
 use crate::tree::{FunctionTree, Jobs};
-use mig_schema::Seq;
+use mig_base::Seq;
 use mig_tokens::{Misread, ReadError, Token, after_end, many_of, placed, tokens_to_end};
 use std::alloc::Global;
 

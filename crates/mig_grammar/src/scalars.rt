@@ -6,8 +6,9 @@ ghost use Rattle.mig_grammar.specs.ReadingTokens as part;
 
 use crate::marks::{label_limit, scalar_limit, weight_limit};
 use crate::tree::ScalarTree;
-use mig_schema::{Exact, Txt};
-use mig_tokens::{Limit, ReadError, Token, first_of, is_reserved};
+use mig_base::{Exact, Txt};
+use mig_schema::Limit;
+use mig_tokens::{ReadError, Token, first_of, is_reserved};
 use std::alloc::{AllocError, Global};
 
 /// The scalar that a token is, where it is one.

@@ -12,10 +12,11 @@ use crate::columns::col_of;
 use crate::kinds::kind_of;
 use crate::marks::is_key_kind;
 use crate::tree::{Jobs, LinkTree, SchemaTree};
-use mig_schema::{Column, Seq, Table};
+use mig_base::Seq;
+use mig_schema::{Column, Limit, Table};
 use mig_tokens::{
-    Item, Limit, ReadError, Token, after_sign, after_word, is_sign, is_word, led_of, many_of,
-    name_of, over,
+    Item, ReadError, Token, after_sign, after_word, is_sign, is_word, led_of, many_of, name_of,
+    over,
 };
 use std::alloc::Global;
 

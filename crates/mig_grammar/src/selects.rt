@@ -8,8 +8,9 @@ ghost use Rattle.mig_tokens.specs.Given.{Gives};
 use crate::columns::col_of;
 use crate::joins::rows_of;
 use crate::tree::{ColName, Jobs, SelectTree};
-use mig_schema::Seq;
-use mig_tokens::{Item, Limit, ReadError, Token, after_sign, after_word, is_sign, led_of, over};
+use mig_base::Seq;
+use mig_schema::Limit;
+use mig_tokens::{Item, ReadError, Token, after_sign, after_word, is_sign, led_of, over};
 use std::alloc::Global;
 
 /// A selected column, with `count` before it.

@@ -9,8 +9,9 @@ use crate::columns::col_of;
 use crate::joins::{join_of, rows_of};
 use crate::scalars::scalar_of;
 use crate::tree::{Jobs, StmtTree};
-use mig_schema::Seq;
-use mig_tokens::{Item, Limit, ReadError, Token, after_sign, after_word, is_word, led_of, over};
+use mig_base::Seq;
+use mig_schema::Limit;
+use mig_tokens::{Item, ReadError, Token, after_sign, after_word, is_word, led_of, over};
 use std::alloc::Global;
 
 /// An insert, with `count` statements before it.

@@ -1,5 +1,6 @@
 // What a text says, with its names and numbers as they are written.
-use mig_schema::{Op, Param, Seq, Table, Txt};
+use mig_base::{Seq, Txt};
+use mig_schema::{Op, Param, Table};
 
 /// A column, by the names of its table and of itself.
 #[derive(Debug, Drop)]

@@ -2,7 +2,7 @@
 ghost use Rattle.std.specs.Prelude.{◌≡◌, ℕ, List, [], ◌∷◌, ◌++◌};
 ghost use Rattle.std.specs.Borrow.{ftrue};
 
-use mig_schema::Word;
+use mig_base::Word;
 use std::marker::Model;
 
 /// The names that were asked for, in order. Contracts alone see them: the value takes no bytes.

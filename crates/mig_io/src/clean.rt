@@ -6,7 +6,7 @@ use crate::asked::Asked;
 use crate::files::{FetchFault, Files};
 use crate::shelf::{Shelf, copy_within};
 use crate::sinks::{Sink, SinkFault};
-use mig_schema::{Bytes, Seq, Word};
+use mig_base::{Bytes, Seq, Word};
 use std::alloc::{AllocError, Global};
 
 /// Files in memory that never fail and tell what each name holds: a name that was not put in is an empty file.

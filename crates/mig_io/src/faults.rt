@@ -3,7 +3,7 @@ ghost use Rattle.std.specs.Prelude.{◌≡◌, ◌^◌, ◌<◌, ◌≤◌, ◌|
 ghost use Rattle.mig_io.specs.Counts.{raised, is_listed};
 
 use crate::count::Count;
-use mig_schema::Seq;
+use mig_base::Seq;
 
 /// Whether the call after this many is listed. Calls are numbered from 1.
 fn listed_next(listed: &[u64], calls: u64) -> bool

@@ -3,7 +3,7 @@ ghost use Rattle.std.specs.Prelude.{◌≡◌, ℕ, ◌^◌, ◌<◌, ◌≤◌,
 ghost use Rattle.std.specs.Option.{ForSome};
 ghost use Rattle.mig_io.specs.Counts.{Rose};
 
-use mig_schema::{Bytes, Word};
+use mig_base::{Bytes, Word};
 use std::alloc::Global;
 use thiserror::Error;
 

@@ -12,14 +12,12 @@ mod real_files;
 mod real_sink;
 mod shelf;
 mod sinks;
-#[cfg(test)]
-mod tests;
 
 pub use asked::Asked;
 pub use clean::{CleanFiles, CleanSink};
 pub use files::{FetchFault, Files};
 pub use mem_files::MemFiles;
 pub use mem_sink::MemSink;
-pub use real_files::RealFiles;
+pub use real_files::{RealFiles, Stopped, read_within};
 pub use real_sink::RealSink;
 pub use sinks::{Sink, SinkFault, emit};

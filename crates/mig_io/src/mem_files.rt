@@ -8,7 +8,7 @@ use crate::asked::Asked;
 use crate::faults::Faults;
 use crate::files::{FetchFault, Files};
 use crate::shelf::{Shelf, copy_within};
-use mig_schema::{Bytes, Seq, Word};
+use mig_base::{Bytes, Seq, Word};
 use std::alloc::{AllocError, Global};
 
 /// Files in memory, which tell what each name holds. They fail at the calls whose numbers, from 1, are listed,

@@ -3,7 +3,7 @@ ghost use Rattle.std.specs.Prelude.{◌≡◌, ℕ, ◌+◌, ◌-◌, ◌^◌, �
 
 use crate::faults::Faults;
 use crate::sinks::{Sink, SinkFault};
-use mig_schema::Seq;
+use mig_base::Seq;
 use std::alloc::{AllocError, Global};
 
 /// A sink in memory, which tells what it took. It fails at the calls whose numbers, from 1, are listed, and where its

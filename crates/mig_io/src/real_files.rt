@@ -4,27 +4,26 @@ ghost use Rattle.std.specs.Prelude.{◌≡◌, ℕ, ◌+◌, ◌^◌, ◌<◌, �
 use crate::asked::Asked;
 use crate::count::Count;
 use crate::files::{FetchFault, Files};
-use mig_schema::{Bytes, Seq, Word};
+use mig_base::{Bytes, Seq, Word};
 use std::alloc::Global;
 use std::io::Read;
 use std::{fs, rt};
 
 /// Why reading stopped before the end.
 #[derive(Clone, Copy, Debug, PartialEq, Eq)]
-pub(crate) enum Stopped {
+pub enum Stopped {
+    /// Memory runs out.
     Memory,
+    /// The reader fails.
     Failed,
+    /// What the reader has left is longer than the cap.
     Long,
 }
 
 /// All bytes up to the end, if these are no more than the cap; else it stops once it took more than the cap.
 ///
 /// Where it is known what the reader has left, the bytes are that, and `Long` comes only where that is too long.
-pub(crate) fn read_within<F: Read>(
-    alloc: Global,
-    file: &mut F,
-    cap: u64,
-) -> Result<Vec<u8>, Stopped>
+pub fn read_within<F: Read>(alloc: Global, file: &mut F, cap: u64) -> Result<Vec<u8>, Stopped>
     ensures capped { IfOk result (λ bytes. length bytes.items ≤ cap) }
     ensures whole { IfOk result (λ bytes. IfSome (F.remaining file.old) (λ held. bytes.items ≡ held)) }
     ensures long { result ≡ Err Stopped.Long → IfSome (F.remaining file.old) (λ held. cap < length held) }

@@ -4,7 +4,7 @@ ghost use Rattle.std.specs.Option.{option_copied, option_map};
 ghost use Rattle.mig_io.specs.Told.{HoldsToo};
 
 use crate::files::FetchFault;
-use mig_schema::{Bytes, Exact, Word, same_text};
+use mig_base::{Bytes, Exact, Word, same_text};
 use std::alloc::{AllocError, Global};
 
 /// A name, and the bytes that it holds.

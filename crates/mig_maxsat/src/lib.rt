@@ -6,10 +6,6 @@ mod heaviest;
 mod hopeless;
 mod keeping;
 mod laws;
-#[cfg(test)]
-mod listed_tests;
-#[cfg(test)]
-mod tests;
 mod weighing;
 mod weighted;
 

@@ -2,8 +2,8 @@
 ghost use Rattle.std.specs.Prelude.{◌↔◌, ◌<◌, ◌^◌, IsTrue};
 ghost use Rattle.mig_maxsat.specs.Heaviest.{IsSound, magnitude};
 
+use mig_base::{Exact, Seq};
 use mig_sat::Cnf;
-use mig_schema::{Exact, Seq};
 use std::alloc::{AllocError, Global};
 
 /// More than the absolute values may sum to: 2^62.

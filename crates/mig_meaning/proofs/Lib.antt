@@ -1,6 +1,8 @@
 pub mod Bags
 pub mod Injections
 pub mod Law
+pub mod Lists
+pub mod Rising
 pub mod Maps
 pub mod Parted
 pub mod Renamed

@@ -3,7 +3,7 @@ use Rattle.std.proofs.Common.{◌≡◌, ℕ, zero, suc, ◌+◌, Bool, true, fa
 use Rattle.std.specs.Prelude.{filter, flat_map}
 use Rattle.std.specs.List.{list_any}
 use Rattle.std.proofs.lemmas.List.{map-append}
-use Rattle.mig_schema.specs.Lists.{numbered}
+use Rattle.mig_base.specs.Lists.{numbered}
 use Rattle.mig_meaning.specs.Lists.{product}
 
 pub map-lift : {X Y Z W : Type 0} (f : Y → W) (h : X → Y) (g : Z → W) (k : X → Z) → ((x : X) → f (h x) ≡ g (k x)) → (xs : List X) → map f (map h xs) ≡ map g (map k xs)

@@ -18,7 +18,7 @@ use Rattle.mig_schema.specs.declared.programs.Body.{Body}
 use Rattle.mig_schema.specs.declared.programs.Body.TheVariants as body
 use Rattle.mig_meaning.specs.declared.states.Placed.{Placed}
 use Rattle.mig_meaning.specs.declared.states.State.{State}
-use Rattle.mig_schema.specs.Lists.{numbered}
+use Rattle.mig_base.specs.Lists.{numbered}
 use Rattle.mig_schema.specs.Columns.{columns_of}
 use Rattle.mig_schema.specs.Joins.{tables_of}
 use Rattle.mig_meaning.specs.Lists.{Each, In}
@@ -28,6 +28,8 @@ use Rattle.mig_meaning.specs.Conditions.{Given, met_rows, scalar_value}
 use Rattle.mig_meaning.specs.Effect.{new_values, with_row, with_rows, takes_part, without_rows, with_value, with_set, effect, after_all, after}
 use Rattle.mig_meaning.specs.States.{row_fits, Rising, IsTable, IsState}
 use Rattle.mig_meaning.proofs.Writing.{SetFits, WritesKinds, BodyWritesKinds}
+use Rattle.mig_meaning.proofs.Lists.{in-either, in-filter}
+use Rattle.mig_meaning.proofs.Rising.{rising-append, rising-filter}
 use Rattle.mig_meaning.proofs.Within.{each-weaker, each-append, each-filter, each-map}
 
 pub each-in : {X : Type 0} (P : X → Type 0) (x : X) (xs : List X) → Each P xs → In x xs → P x
@@ -75,19 +77,6 @@ changed-state schema s F at next st each origin = record {
     go t u p q e (inr a) (inr b) = a.0 ∙ sym b.0
 
 -- ---- insert
-in-append : {X : Type 0} (x : X) (xs ys : List X) → In x (xs ++ ys) → In x xs ⊎ In x ys
-in-append x [] ys h = inr h
-in-append x (z ∷ xs) ys (inl e) = inl (inl e)
-in-append x (z ∷ xs) ys (inr h) = go (in-append x xs ys h)
-  where
-    go : In x xs ⊎ In x ys → In x (z ∷ xs) ⊎ In x ys
-    go (inl a) = inl (inr a)
-    go (inr b) = inr b
-
-rising-append : (rows : List Placed) (p : Placed) → Rising rows → Each (λ (q : Placed). q.id < p.id) rows → Rising (rows ++ (p ∷ []))
-rising-append [] p r b = (tt, tt)
-rising-append (x ∷ xs) p r b = (each-append (λ (q : Placed). x.id < q.id) xs (p ∷ []) r.0 (b.0, tt), rising-append xs p r.1 b.1)
-
 table-later : (cs : List Column) (n : ℕ) (rows : List Placed) → IsTable cs n rows → IsTable cs (n + 1) rows
 table-later cs n rows t = record { rising = t.rising; below = each-weaker _ _ (λ (p : Placed) h. omega (arith, h)) rows t.below; fitting = t.fitting }
 
@@ -113,7 +102,7 @@ with_row-state schema s t vs st fits = changed-state schema s _ t (s.next + 1) s
     split u rows p e (inr (inr k)) = absurd k
 
     origin : (u : ℕ) (rows : List Placed) (p : Placed) → ((u == t) ≡ true) × (u ≡ t) ⊎ ((u == t) ≡ false) × (u ≢ t) → In p (cond (u == t) (rows ++ ((record { id = s.next; row = record { values = vs } }) ∷ [])) rows) → Origin t s.next u rows p
-    origin u rows p (inl e) h = split u rows p e.1 (in-append p rows _ (subst (λ b. In p (cond b (rows ++ ((record { id = s.next; row = record { values = vs } }) ∷ [])) rows)) e.0 h))
+    origin u rows p (inl e) h = split u rows p e.1 (in-either p rows _ (subst (λ b. In p (cond b (rows ++ ((record { id = s.next; row = record { values = vs } }) ∷ [])) rows)) e.0 h))
     origin u rows p (inr e) h = inl (p, subst (λ b. In p (cond b (rows ++ ((record { id = s.next; row = record { values = vs } }) ∷ [])) rows)) e.0 h, refl)
 
 with_rows-state : (schema : Schema) (g : Given) (ms : List Joined) (vs : List Assign) (ts : List ℕ) (s : State) → IsState schema s → ((t : ℕ) → In t ts → row_fits (columns_of schema t) (new_values schema g ms vs t) ≡ true) → IsState schema (with_rows schema g ms vs ts s)
@@ -122,23 +111,6 @@ with_rows-state schema g ms vs (t ∷ ts) s st fits =
     with_rows-state schema g ms vs ts (with_row s t (new_values schema g ms vs t)) (with_row-state schema s t (new_values schema g ms vs t) st (fits t (inl refl))) (λ u h. fits u (inr h))
 
 -- ---- delete
-rising-filter : (k : Placed → Bool) (rows : List Placed) → Rising rows → Rising (filter k rows)
-rising-filter k [] r = tt
-rising-filter k (x ∷ xs) r = go (k x) (rising-filter k xs r.1)
-  where
-    go : (b : Bool) → Rising (filter k xs) → Rising (cond b (x ∷ filter k xs) (filter k xs))
-    go true ih = (each-filter (λ (q : Placed). x.id < q.id) k xs r.0, ih)
-    go false ih = ih
-
-in-filter : {X : Type 0} (k : X → Bool) (x : X) (xs : List X) → In x (filter k xs) → In x xs
-in-filter k x [] h = h
-in-filter k x (y ∷ ys) h = go (k y) (in-filter k x ys) h
-  where
-    go : (b : Bool) → (In x (filter k ys) → In x ys) → In x (cond b (y ∷ filter k ys) (filter k ys)) → In x (y ∷ ys)
-    go true ih (inl e) = inl e
-    go true ih (inr m) = inr (ih m)
-    go false ih m = inr (ih m)
-
 without_rows-state : (schema : Schema) (ts : List ℕ) (es : List JoinRow) (listed : List ℕ) (s : State) → IsState schema s → IsState schema (without_rows ts es listed s)
 without_rows-state schema ts es listed s st =
     changed-state schema s _ 0 s.next st (λ u rows h. table u rows h (list_any (λ t. t == u) listed)) (λ u rows p h. inl (p, origin u rows p (list_any (λ t. t == u) listed) h, refl))

@@ -6,7 +6,7 @@ use Rattle.mig_schema.specs.declared.values.Value.TheVariants as value
 use Rattle.mig_schema.specs.declared.tables.Schema.{Schema}
 use Rattle.mig_schema.specs.declared.programs.Function.{Function}
 use Rattle.mig_schema.specs.declared.programs.Program.{Program}
-use Rattle.mig_schema.specs.Lists.{numbered}
+use Rattle.mig_base.specs.Lists.{numbered}
 use Rattle.mig_meaning.specs.declared.states.State.{State}
 use Rattle.mig_meaning.specs.declared.calling.Invocation.{Invocation}
 use Rattle.mig_meaning.specs.Effect.{after, reply}

@@ -22,7 +22,7 @@ use Rattle.mig_schema.specs.declared.programs.Body.TheVariants as body
 use Rattle.mig_schema.specs.declared.programs.Function.{Function}
 use Rattle.mig_schema.specs.declared.values.Value.{Value}
 use Rattle.mig_schema.specs.declared.values.Value.TheVariants as value
-use Rattle.mig_schema.specs.Lists.{numbered}
+use Rattle.mig_base.specs.Lists.{numbered}
 use Rattle.mig_schema.specs.Columns.{no_column, columns_of, columns_in, kind_of, same_col, same_kind}
 use Rattle.mig_schema.specs.Joins.{tables_of, leader, join_columns, joins_on, all_join_on, is_among}
 use Rattle.mig_schema.specs.Typed.{Piece, piece_of, pieces_of, scalars_of, scalar_kind, names_no_param, values_for, IsTypedPiece, IsTypedFunction}
@@ -33,30 +33,11 @@ use Rattle.mig_meaning.specs.Conditions.{Given, scalar_value}
 use Rattle.mig_meaning.specs.Effect.{class_value, after}
 use Rattle.mig_meaning.specs.Calls.{fit, IsGivenTo}
 use Rattle.mig_meaning.specs.States.{row_fits, label_fits, labels_fit, IsState}
+use Rattle.mig_meaning.proofs.Lists.{by-recursion, each-none, each-true, each-front, each-back, each-unmapped}
 use Rattle.mig_meaning.proofs.Writing.{SetFits, WritesKinds, BodyWritesKinds}
 use Rattle.mig_meaning.proofs.StateLaw.{after-state}
 
 -- ---- lists
-each-none : {X : Type 0} (p : X → Bool) (xs : List X) → list_any p xs ≡ false → Each (λ x. p x ≡ false) xs
-each-none p [] h = tt
-each-none p (x ∷ xs) h = let k = or_parts (p x) (list_any p xs) h in (k.0, each-none p xs k.1)
-
-each-true : {X : Type 0} (p : X → Bool) (xs : List X) → list_all p xs ≡ true → Each (λ x. p x ≡ true) xs
-each-true p [] h = tt
-each-true p (x ∷ xs) h = let k = and_parts (p x) (list_all p xs) h in (k.0, each-true p xs k.1)
-
-each-front : {X : Type 0} (P : X → Type 0) (xs ys : List X) → Each P (xs ++ ys) → Each P xs
-each-front P [] ys a = tt
-each-front P (x ∷ xs) ys a = (a.0, each-front P xs ys a.1)
-
-each-back : {X : Type 0} (P : X → Type 0) (xs ys : List X) → Each P (xs ++ ys) → Each P ys
-each-back P [] ys a = a
-each-back P (x ∷ xs) ys a = each-back P xs ys a.1
-
-each-unmapped : {X Y : Type 0} (P : Y → Type 0) (f : X → Y) (xs : List X) → Each P (map f xs) → Each (λ x. P (f x)) xs
-each-unmapped P f [] a = tt
-each-unmapped P f (x ∷ xs) a = (a.0, each-unmapped P f xs a.1)
-
 each-piece : {X Y : Type 0} (P : Y → Type 0) (f : X → List Y) (x : X) (xs : List X) → Each P (flat_map f xs) → In x xs → Each P (f x)
 each-piece P f x [] a h = absurd h
 each-piece P f x (y ∷ ys) a (inl e) = subst (λ z. Each P (f z)) (sym e) (each-front P (f y) (flat_map f ys) a)
@@ -66,10 +47,6 @@ each-numbered-at : {X Y : Type 0} (P : Y → Type 0) (f : ℕ → Y) (n : ℕ) (
 each-numbered-at P f n [] a j l = absurd (omega arith)
 each-numbered-at P f n (x ∷ xs) a zero l = let e : n ≡ n + 0 = omega arith in subst (λ m. P (f m)) e a.0
 each-numbered-at P f n (x ∷ xs) a (suc j) l = let e : (n + 1) + j ≡ n + suc j = omega arith in subst (λ m. P (f m)) e (each-numbered-at P f (n + 1) xs a.1 j (omega (arith, l)))
-
-by-recursion : {X : Type 0} (P : X → Type 0) (xs : List X) → AllByRecursion P xs → Each P xs
-by-recursion P [] a = tt
-by-recursion P (x ∷ xs) a = (a.0, by-recursion P xs a.1)
 
 -- ---- scalars
 no_param : Param

@@ -4,19 +4,10 @@ use Rattle.std.specs.Prelude.{◌^◌, nat_lt}
 use Rattle.std.specs.List.{list_all}
 use Rattle.std.proofs.lemmas.Bool.{and_parts, ltb-true, not-true}
 use Rattle.mig_schema.specs.declared.values.Value.TheVariants as value
-use Rattle.mig_schema.specs.declared.tables.Kind.TheVariants as kind
-use Rattle.mig_schema.specs.declared.tables.ColId.{ColId}
-use Rattle.mig_schema.specs.declared.tables.Schema.{Schema}
-use Rattle.mig_schema.specs.declared.programs.Join.{Join}
-use Rattle.mig_schema.specs.declared.programs.Scalar.TheVariants as scalar
-use Rattle.mig_schema.specs.declared.programs.Stmt.{Stmt}
-use Rattle.mig_schema.specs.declared.programs.Stmt.TheVariants.{Insert}
-use Rattle.mig_schema.specs.declared.programs.Body.TheVariants as body
-use Rattle.mig_schema.specs.declared.programs.Program.{Program}
 use Rattle.mig_meaning.specs.declared.calling.Invocation.{Invocation}
 use Rattle.mig_meaning.specs.Lists.{Each, has, AllDifferent}
 use Rattle.mig_meaning.specs.Calls.{IsSupply, AreCalls}
-use Rattle.mig_meaning.specs.Equivalent.{IsEquivalent}
+use Rattle.mig_meaning.specs.Losing.{program, adds, LostRow, OtherKey}
 
 -- ---- a supply for two calls
 
@@ -38,29 +29,6 @@ supply = 0 ∷ 1 ∷ 2 ∷ 3 ∷ 4 ∷ 5 ∷ 6 ∷ 7 ∷ 8 ∷ 9 ∷ 10 ∷ 11 �
 is-supply : IsSupply 2 supply
 is-supply = record { enough = omega arith; different = all-different supply refl; small = all-small supply refl }
 
--- ---- table K { k: key }, an update without parameters, and a query of all rows
-
-abbrev schema : Schema
-schema = record { tables = record { name = []; columns = record { name = []; kind = kind.Key } ∷ [] } ∷ []; links = [] }
-
-abbrev alone : Join
-alone = record { first = 0; more = [] }
-
-abbrev k : ColId
-k = record { table = 0; column = 0 }
-
--- a new row with this key of the call
-abbrev adds : ℕ → List Stmt
-adds n = Insert alone (record { column = k; value = scalar.Fresh n } ∷ []) ∷ []
-
-abbrev program : List Stmt → Program
-program stmts = record {
-  functions =
-      record { name = []; params = []; body = body.Update stmts }
-      ∷ record { name = []; params = []; body = body.Query (record { columns = k ∷ []; join = alone; cond = record { cases = [] ∷ [] } }) }
-      ∷ [];
-}
-
 abbrev call : ℕ → Invocation
 call n = record { function = n; args = record { values = [] } }
 
@@ -68,9 +36,9 @@ calls : AreCalls (program (adds 0)) (call 0 ∷ call 1 ∷ [])
 calls = (record { named = omega arith; args = refl }, (record { named = omega arith; args = refl }, tt))
 
 -- a program that adds no row is not equivalent to one that adds a row
-pub lost-row : IsEquivalent schema schema (program (adds 0)) (program []) [] → ⊥
+pub lost-row : LostRow
 lost-row e = let s = (e.by (call 0 ∷ call 1 ∷ []) supply supply calls is-supply is-supply).2.1.by (value.Key 0 ∷ []) in cc
 
 -- nor is one that writes another key of the call
-pub other-key : IsEquivalent schema schema (program (adds 0)) (program (adds 1)) [] → ⊥
+pub other-key : OtherKey
 other-key e = let s = (e.by (call 0 ∷ call 1 ∷ []) supply supply calls is-supply is-supply).2.1.by (value.Key 0 ∷ []) in cc

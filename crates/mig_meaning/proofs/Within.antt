@@ -19,7 +19,7 @@ use Rattle.mig_schema.specs.declared.programs.Body.{Body}
 use Rattle.mig_schema.specs.declared.programs.Body.TheVariants as body
 use Rattle.mig_meaning.specs.declared.states.Placed.{Placed}
 use Rattle.mig_meaning.specs.declared.states.State.{State}
-use Rattle.mig_schema.specs.Lists.{numbered}
+use Rattle.mig_base.specs.Lists.{numbered}
 use Rattle.mig_schema.specs.Columns.{columns_of}
 use Rattle.mig_schema.specs.Joins.{tables_of}
 use Rattle.mig_meaning.specs.Lists.{product, place, Each}

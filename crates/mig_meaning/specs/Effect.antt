@@ -12,7 +12,7 @@ use Rattle.mig_schema.specs.declared.programs.Query.{Query}
 use Rattle.mig_schema.specs.declared.programs.Body.{Body}
 use Rattle.mig_schema.specs.declared.programs.Body.TheVariants as body
 use Rattle.mig_schema.specs.declared.values.Value.{Value}
-use Rattle.mig_schema.specs.Lists.{numbered}
+use Rattle.mig_base.specs.Lists.{numbered}
 use Rattle.mig_schema.specs.Columns.{columns_of, same_col}
 use Rattle.mig_schema.specs.Joins.{tables_of, leader}
 use Rattle.mig_meaning.specs.declared.states.Placed.{Placed}

@@ -8,6 +8,7 @@ pub mod Holds
 pub mod Keys
 pub mod Law
 pub mod Lists
+pub mod Losing
 pub mod Meeting
 pub mod Renaming
 pub mod Rows

@@ -2,7 +2,7 @@
 use Rattle.std.specs.Prelude.{List, map, Option, Some, None}
 use Rattle.mig_schema.specs.declared.values.Value.{Value}
 use Rattle.mig_meaning.specs.declared.states.Row.{Row}
-use Rattle.mig_meaning.specs.declared.conditions.Given as code
+use Rattle.mig_meaning.specs.declared.given.Given as code
 use Rattle.mig_meaning.specs.declared.small.Outcome as small
 use Rattle.mig_meaning.specs.declared.calling.Reply.{Reply}
 use Rattle.mig_meaning.specs.declared.calling.Reply.TheVariants.{Done, Rows}
@@ -20,7 +20,7 @@ reply_told (Rows a) = Some (rows_told a.rows)
 
 -- what a call is given
 abbrev pub given_told : code.Given → Given
-given_told g = record { args = g.args.values; keys = g.keys.keys }
+given_told g = record { args = g.args.now.values; keys = g.keys.now.keys }
 
 -- what a call leaves and answers
 abbrev pub outcome_told : small.Outcome → Outcome

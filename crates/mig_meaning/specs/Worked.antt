@@ -1,5 +1,5 @@
--- Worked rows: what the definitions compute.
-use Rattle.std.specs.Prelude.{ℕ, List, [], ◌∷◌, pos, ◌≡◌, refl, Option, Some, None, map}
+-- Worked runs: what the definitions compute.
+use Rattle.std.specs.Prelude.{ℕ, List, [], ◌∷◌, pos, ◌≡◌, Option, Some, None, map}
 use Rattle.mig_schema.specs.declared.values.Value.{Value}
 use Rattle.mig_schema.specs.declared.values.Value.TheVariants as value
 use Rattle.mig_schema.specs.declared.tables.Kind.TheVariants as kind
@@ -22,10 +22,10 @@ use Rattle.mig_meaning.specs.declared.calling.Invocation.{Invocation}
 use Rattle.mig_meaning.specs.Rows.{empty_state, join_rows}
 use Rattle.mig_meaning.specs.Run.{run, Outcome}
 
-int_column : Column
+abbrev int_column : Column
 int_column = record { name = []; kind = kind.Int }
 
-key_column : Column
+abbrev key_column : Column
 key_column = record { name = []; kind = kind.Key }
 
 abbrev col : ℕ → ℕ → ColId
@@ -76,15 +76,15 @@ abbrev replies : List Outcome → List (Option (List (List Value)))
 replies os = map (λ (o : Outcome). o.reply) os
 
 -- two persons are added, the younger one's pay is raised, the query sees both
-worked_set : replies (run schema program (empty_state schema) (call 0 (int 20 ∷ (int 5 ∷ [])) ∷ (call 0 (int 40 ∷ (int 6 ∷ [])) ∷ (call 1 (int 9 ∷ []) ∷ (call 3 [] ∷ [])))) supply) ≡ None ∷ (None ∷ (None ∷ (Some ((int 20 ∷ (int 9 ∷ [])) ∷ ((int 40 ∷ (int 6 ∷ [])) ∷ [])) ∷ [])))
-worked_set = refl
+abbrev pub SetRun : Type 0
+SetRun = replies (run schema program (empty_state schema) (call 0 (int 20 ∷ (int 5 ∷ [])) ∷ (call 0 (int 40 ∷ (int 6 ∷ [])) ∷ (call 1 (int 9 ∷ []) ∷ (call 3 [] ∷ [])))) supply) ≡ None ∷ (None ∷ (None ∷ (Some ((int 20 ∷ (int 9 ∷ [])) ∷ ((int 40 ∷ (int 6 ∷ [])) ∷ [])) ∷ [])))
 
 abbrev pair : ℕ → ℕ → ℕ → Placed
 pair id k n = record { id = id; row = record { values = value.Key k ∷ (int n ∷ []) } }
 
 -- the state after two adds and leave(20): ids go on over all tables, the second call has the key 16
-worked_delete : map (λ (o : Outcome). o.state) (run schema program (empty_state schema) (call 0 (int 20 ∷ (int 5 ∷ [])) ∷ (call 0 (int 40 ∷ (int 6 ∷ [])) ∷ (call 2 (int 20 ∷ []) ∷ []))) supply) ≡ record { tables = (pair 0 0 20 ∷ []) ∷ ((pair 1 0 5 ∷ []) ∷ []); next = 2 } ∷ (record { tables = (pair 0 0 20 ∷ (pair 2 16 40 ∷ [])) ∷ ((pair 1 0 5 ∷ (pair 3 16 6 ∷ [])) ∷ []); next = 4 } ∷ (record { tables = (pair 0 0 20 ∷ (pair 2 16 40 ∷ [])) ∷ ((pair 3 16 6 ∷ []) ∷ []); next = 4 } ∷ []))
-worked_delete = refl
+abbrev pub DeleteRun : Type 0
+DeleteRun = map (λ (o : Outcome). o.state) (run schema program (empty_state schema) (call 0 (int 20 ∷ (int 5 ∷ [])) ∷ (call 0 (int 40 ∷ (int 6 ∷ [])) ∷ (call 2 (int 20 ∷ []) ∷ []))) supply) ≡ record { tables = (pair 0 0 20 ∷ []) ∷ ((pair 1 0 5 ∷ []) ∷ []); next = 2 } ∷ (record { tables = (pair 0 0 20 ∷ (pair 2 16 40 ∷ [])) ∷ ((pair 1 0 5 ∷ (pair 3 16 6 ∷ [])) ∷ []); next = 4 } ∷ (record { tables = (pair 0 0 20 ∷ (pair 2 16 40 ∷ [])) ∷ ((pair 3 16 6 ∷ []) ∷ []); next = 4 } ∷ []))
 
 -- ---- table A { id: int, x: int } and table B { id: int, y: int }
 abbrev ab : Schema
@@ -127,13 +127,13 @@ abbrev nums : ℕ → ℕ → List Value
 nums a b = int a ∷ (int b ∷ [])
 
 -- both listed tables are tested on the state before the delete: B loses its rows though A has lost its own
-worked_both : replies (run ab two_tables (empty_state ab) (call 0 (nums 1 5) ∷ (call 1 (nums 1 6) ∷ (call 1 (nums 1 7) ∷ (call 1 (nums 2 8) ∷ (call 2 (int 1 ∷ []) ∷ (call 3 [] ∷ (call 4 [] ∷ []))))))) []) ≡ None ∷ (None ∷ (None ∷ (None ∷ (None ∷ (Some [] ∷ (Some ((int 8 ∷ []) ∷ []) ∷ []))))))
-worked_both = refl
+abbrev pub BothTablesRun : Type 0
+BothTablesRun = replies (run ab two_tables (empty_state ab) (call 0 (nums 1 5) ∷ (call 1 (nums 1 6) ∷ (call 1 (nums 1 7) ∷ (call 1 (nums 2 8) ∷ (call 2 (int 1 ∷ []) ∷ (call 3 [] ∷ (call 4 [] ∷ []))))))) []) ≡ None ∷ (None ∷ (None ∷ (None ∷ (None ∷ (Some [] ∷ (Some ((int 8 ∷ []) ∷ []) ∷ []))))))
 
 -- two rows alike are two rows; a row that meets two cases stands once; no case is no row
-worked_cases : replies (run ab two_tables (empty_state ab) (call 0 (nums 1 5) ∷ (call 0 (nums 1 5) ∷ (call 0 (nums 2 6) ∷ (call 0 (nums 3 7) ∷ (call 5 [] ∷ (call 6 [] ∷ [])))))) []) ≡ None ∷ (None ∷ (None ∷ (None ∷ (Some ((int 5 ∷ []) ∷ ((int 5 ∷ []) ∷ ((int 7 ∷ []) ∷ []))) ∷ (Some [] ∷ [])))))
-worked_cases = refl
+abbrev pub CasesRun : Type 0
+CasesRun = replies (run ab two_tables (empty_state ab) (call 0 (nums 1 5) ∷ (call 0 (nums 1 5) ∷ (call 0 (nums 2 6) ∷ (call 0 (nums 3 7) ∷ (call 5 [] ∷ (call 6 [] ∷ [])))))) []) ≡ None ∷ (None ∷ (None ∷ (None ∷ (Some ((int 5 ∷ []) ∷ ((int 5 ∷ []) ∷ ((int 7 ∷ []) ∷ []))) ∷ (Some [] ∷ [])))))
 
 -- the first table is the slowest
-worked_order : join_rows (record { tables = (pair 0 1 1 ∷ (pair 1 2 1 ∷ [])) ∷ ((pair 2 1 1 ∷ (pair 3 2 1 ∷ [])) ∷ []); next = 4 }) (record { first = 0; more = record { table = 1; left = col 0 1; right = col 1 1 } ∷ [] }) ≡ (pair 0 1 1 ∷ (pair 2 1 1 ∷ [])) ∷ ((pair 0 1 1 ∷ (pair 3 2 1 ∷ [])) ∷ ((pair 1 2 1 ∷ (pair 2 1 1 ∷ [])) ∷ ((pair 1 2 1 ∷ (pair 3 2 1 ∷ [])) ∷ [])))
-worked_order = refl
+abbrev pub ProductOrder : Type 0
+ProductOrder = join_rows (record { tables = (pair 0 1 1 ∷ (pair 1 2 1 ∷ [])) ∷ ((pair 2 1 1 ∷ (pair 3 2 1 ∷ [])) ∷ []); next = 4 }) (record { first = 0; more = record { table = 1; left = col 0 1; right = col 1 1 } ∷ [] }) ≡ (pair 0 1 1 ∷ (pair 2 1 1 ∷ [])) ∷ ((pair 0 1 1 ∷ (pair 3 2 1 ∷ [])) ∷ ((pair 1 2 1 ∷ (pair 2 1 1 ∷ [])) ∷ ((pair 1 2 1 ∷ (pair 3 2 1 ∷ [])) ∷ [])))

@@ -1,6 +1,7 @@
 // Calls of a program's functions, and what they answer.
 use crate::states::Row;
-use mig_schema::{Exact, Seq, Value};
+use mig_base::{Exact, Seq};
+use mig_schema::Value;
 use std::alloc::{AllocError, Global};
 
 /// What a query answers: a row for each join row that meets its condition. Only how often each row stands in it counts.

@@ -1,65 +1,21 @@
-// What a call is given, and which join rows meet a condition.
-ghost use Rattle.std.specs.Prelude.{◌≡◌, IfOk, map, slice_index_or};
-ghost use Rattle.mig_schema.specs.declared.values.Value.TheVariants as value;
-ghost use Rattle.mig_meaning.specs.Values.{no_value};
+// Which join rows meet a condition.
+ghost use Rattle.std.specs.Prelude.{◌≡◌, filter, IfOk};
+ghost use Rattle.mig_schema.specs.Joins as joins;
 ghost use Rattle.mig_meaning.specs.Conditions as spec;
 ghost use Rattle.mig_meaning.specs.Told.{given_told};
 
-use crate::calling::{Args, Keys};
-use crate::rows::{JoinRow, column_in, join_rows, tables_of};
+use crate::given::{Given, scalar_value};
+use crate::rows::{JoinRow, column_in, join_rows};
 use crate::states::{Placed, State};
 use crate::values::compares;
-use mig_schema::{Cmp, Cond, Exact, Item, Join, Scalar, Seq, Value};
+use mig_base::Seq;
+use mig_schema::{Cmp, Cond, Item, Join, Value};
 use std::alloc::{AllocError, Global};
-
-/// The arguments and the keys of one call.
-#[derive(Debug, Drop)]
-pub(crate) struct Given {
-    pub(crate) args: Args,
-    pub(crate) keys: Keys,
-}
-
-/// A copy of the argument of this number; the int 0 where there is none.
-#[tactic(auto, using(std::proofs::lemmas::Grind::common_steps, std::proofs::lemmas::Option::gets))]
-fn argument(alloc: Global, given: &Given, p: u32) -> Result<Value, AllocError>
-    ensures { IfOk result (λ v. v ≡ slice_index_or given.now.args.values p no_value) }
-{
-    match given.args.values.get(p as usize) {
-        Some(value) => value.twin(alloc),
-        None => Ok(Value::Int(0)),
-    }
-}
-
-/// The key of this label; the int 0 where there is none.
-fn fresh_key(given: &Given, n: u32) -> Value
-    ensures { result ≡ slice_index_or (map value.Key given.now.keys.keys) n no_value }
-{
-    match given.keys.keys.get(n as usize) {
-        Some(key) => Value::Key(*key),
-        None => Value::Int(0),
-    }
-}
-
-/// The value of a scalar.
-pub(crate) fn scalar_value(
-    alloc: Global,
-    given: &Given,
-    scalar: &Scalar,
-) -> Result<Value, AllocError>
-    ensures { IfOk result (λ v. v ≡ spec.scalar_value (given_told given.now) scalar.now) }
-{
-    match scalar {
-        Scalar::Param(p) => argument(alloc, given, *p),
-        Scalar::Int(i) => Ok(Value::Int(*i)),
-        Scalar::Text(t) => Ok(Value::Text(t.twin(alloc)?)),
-        Scalar::Fresh(n) => Ok(fresh_key(given, *n)),
-    }
-}
 
 /// The value of one side of a comparison.
 fn item_value(
     alloc: Global,
-    given: &Given,
+    given: &Given<'_>,
     tables: &[u32],
     row: &[Placed],
     item: &Item,
@@ -75,7 +31,7 @@ fn item_value(
 /// Whether a comparison is true at a join row.
 fn cmp_true(
     alloc: Global,
-    given: &Given,
+    given: &Given<'_>,
     tables: &[u32],
     row: &[Placed],
     cmp: &Cmp,
@@ -90,7 +46,7 @@ fn cmp_true(
 /// Whether all comparisons of a case are true.
 fn case_true(
     alloc: Global,
-    given: &Given,
+    given: &Given<'_>,
     tables: &[u32],
     row: &[Placed],
     case: &[Cmp],
@@ -109,7 +65,7 @@ fn case_true(
 /// Whether some case of a condition is true.
 fn cases_true(
     alloc: Global,
-    given: &Given,
+    given: &Given<'_>,
     tables: &[u32],
     row: &[Placed],
     cases: &[Seq<Cmp>],
@@ -125,28 +81,37 @@ fn cases_true(
     }
 }
 
-/// The join rows that meet a condition.
-pub(crate) fn met_rows(
+/// Those of these join rows that meet a condition, in order.
+pub fn those_met(
     alloc: Global,
-    given: &Given,
-    state: &State,
-    join: &Join,
-    cond: &Cond,
+    given: &Given<'_>,
+    tables: &[u32],
+    cases: &[Seq<Cmp>],
+    rows: Vec<JoinRow>,
 ) -> Result<Vec<JoinRow>, AllocError>
-    ensures { IfOk result (λ v. v.items ≡ spec.met_rows (given_told given.now) state.now join.now cond.now.cases) }
+    ensures { IfOk result (λ v. v.items ≡ filter (λ e. spec.cases_true (given_told given.now) tables.now e cases.now) rows.items) }
 {
-    let tables = tables_of(alloc, join)?;
     let mut met = Vec::new(alloc);
-    for row in join_rows(alloc, state, join)? {
-        if cases_true(
-            alloc,
-            given,
-            tables.as_slice(),
-            row.as_slice(),
-            cond.cases.as_slice(),
-        )? {
+    for row in rows {
+        if cases_true(alloc, given, tables, row.as_slice(), cases)? {
             met.push(row)?;
         }
     }
     Ok(met)
+}
+
+/// The join rows that meet a condition, in product order. `tables` are those of the join.
+pub(crate) fn met_rows(
+    alloc: Global,
+    given: &Given<'_>,
+    state: &State,
+    join: &Join,
+    tables: &[u32],
+    cond: &Cond,
+) -> Result<Vec<JoinRow>, AllocError>
+    requires { tables.now ≡ joins.tables_of join.now }
+    ensures { IfOk result (λ v. v.items ≡ spec.met_rows (given_told given.now) state.now join.now cond.now.cases) }
+{
+    let rows = join_rows(alloc, state, join, tables)?;
+    those_met(alloc, given, tables, cond.cases.as_slice(), rows)
 }

@@ -5,7 +5,7 @@ ghost use Rattle.mig_meaning.specs.Effect as spec;
 
 use crate::rows::{JoinRow, id_in};
 use crate::states::{Placed, State};
-use mig_schema::{Exact, Seq};
+use mig_base::{Exact, Seq};
 use std::alloc::{AllocError, Global};
 
 /// Whether a row of table t takes part in some of these join rows.

@@ -8,7 +8,7 @@ ghost use Rattle.mig_meaning.specs.Told.{rows_told};
 
 use crate::calling::Answer;
 use crate::states::Row;
-use mig_schema::Exact;
+use mig_base::Exact;
 
 /// Whether two rows have the same values.
 fn row_eq(left: &Row, right: &Row) -> bool

@@ -1,36 +1,18 @@
 // What an insert makes of a state.
 ghost use Rattle.std.specs.Prelude.{◌≡◌, ◌∷◌, ◌++◌, [], cond, IfOk};
-ghost use Rattle.mig_schema.specs.Columns as columns;
-ghost use Rattle.mig_schema.specs.Joins as joins;
 ghost use Rattle.mig_meaning.specs.Effect as spec;
 ghost use Rattle.mig_meaning.specs.Told.{given_told};
 
-use crate::conditions::{Given, scalar_value};
+use crate::given::{Given, scalar_value};
 use crate::states::{Placed, Row, State};
-use mig_schema::{Assign, ColId, Column, Exact, Joined, Schema, Seq, Value};
+use mig_base::{Exact, Seq, number};
+use mig_schema::{Assign, ColId, Joined, Schema, Value, columns_of, leader};
 use std::alloc::{AllocError, Global};
-
-/// One column of each class that the equalities of a join make, for all columns of the class.
-fn leader(joined: &[Joined], column: ColId) -> ColId
-    ensures { result ≡ joins.leader joined.now column }
-{
-    match joined {
-        [] => column,
-        [m, more @ ..] => {
-            let own = leader(more, column);
-            if own == leader(more, m.right) {
-                leader(more, m.left)
-            } else {
-                own
-            }
-        }
-    }
-}
 
 /// The value that an insert gives to the class of a column; the int 0 where it gives none.
 fn class_value(
     alloc: Global,
-    given: &Given,
+    given: &Given<'_>,
     joined: &[Joined],
     values: &[Assign],
     column: ColId,
@@ -47,32 +29,12 @@ fn class_value(
     }
 }
 
-/// The columns of table t; none where there is no such table.
-#[tactic(auto, using(std::proofs::lemmas::Grind::common_steps, std::proofs::lemmas::Option::gets))]
-fn columns_of(schema: &Schema, t: u32) -> &[Column]
-    ensures { result.now ≡ columns.columns_of schema.now t }
-{
-    match schema.tables.get(t as usize) {
-        Some(table) => table.columns.as_slice(),
-        None => &[],
-    }
-}
-
-/// A number as a number of a column. A list that is too long for it counts as want of memory.
-fn column_number(n: usize) -> Result<u32, AllocError>
-    ensures { IfOk result (λ m. m ≡ n) }
-{
-    match u32::try_from(n) {
-        Ok(m) => Ok(m),
-        Err(_) => Err(AllocError),
-    }
-}
-
-/// The values of the new row of table t.
-fn new_values(
+/// The values of the new row of table t, in the order of its columns. Want of memory is also told where the table has more than 2^32
+/// columns.
+pub fn new_values(
     alloc: Global,
     schema: &Schema,
-    given: &Given,
+    given: &Given<'_>,
     joined: &[Joined],
     values: &[Assign],
     t: u32,
@@ -84,7 +46,7 @@ fn new_values(
     for n in 0..columns.len() {
         let column = ColId {
             table: t,
-            column: column_number(n)?,
+            column: number(n)?,
         };
         all.push(class_value(alloc, given, joined, values, column)?)?;
     }
@@ -129,7 +91,7 @@ fn with_row(alloc: Global, state: &State, t: u32, values: &Seq<Value>) -> Result
 pub(crate) fn with_rows(
     alloc: Global,
     schema: &Schema,
-    given: &Given,
+    given: &Given<'_>,
     joined: &[Joined],
     values: &[Assign],
     tables: &[u32],

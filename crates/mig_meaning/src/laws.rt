@@ -1,7 +1,9 @@
 // Laws of runs. Each is the contract of a function that does nothing.
 ghost use Rattle.mig_meaning.specs.Law.{RenamingLaw};
+ghost use Rattle.mig_meaning.specs.Losing.{LostRow, OtherKey};
 ghost use Rattle.mig_meaning.specs.Meeting.{EquivalenceLaw, MeetingLaw};
 ghost use Rattle.mig_meaning.specs.States.{StateLaw};
+ghost use Rattle.mig_meaning.specs.Worked.{SetRun, DeleteRun, BothTablesRun, CasesRun, ProductOrder};
 
 /// A renaming that gives different keys to any two different keys among those of the start state, the arguments and the supply commutes with every run.
 pub fn renamings_commute()
@@ -21,4 +23,19 @@ pub fn meeting_pairs_answer_alike()
 /// Such programs are equivalent: the same holds of any two supplies, the keys of the one renamed to those of the other.
 pub fn meeting_pairs_are_equivalent()
     ensures { EquivalenceLaw }
+{}
+
+/// A program that loses a row, or that writes another key of its call, is not equivalent to one that does not.
+pub fn losing_programs_differ()
+    ensures row { LostRow }
+    ensures key { OtherKey }
+{}
+
+/// Worked runs: a set through a join, a delete by a key, a delete from both tables of a join, a condition of three cases two of which are the same, and the order of the rows of a join.
+pub fn worked_runs()
+    ensures set { SetRun }
+    ensures delete { DeleteRun }
+    ensures both { BothTablesRun }
+    ensures cases { CasesRun }
+    ensures order { ProductOrder }
 {}

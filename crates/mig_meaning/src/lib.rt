@@ -5,24 +5,29 @@ mod calling;
 mod conditions;
 mod deleting;
 mod equal;
+mod given;
 mod inserting;
 mod laws;
 mod relating;
 mod rows;
-#[cfg(test)]
-mod run_tests;
+mod selecting;
 mod setting;
 mod small;
 mod states;
-#[cfg(test)]
-mod tests;
 mod values;
 
 pub use calling::{Answer, Args, Calls, Invocation, Keys, Reply};
+pub use conditions::those_met;
 pub use equal::same_bag;
+pub use given::{Given, scalar_value};
+pub use inserting::new_values;
 pub use laws::{
-    meeting_pairs_answer_alike, meeting_pairs_are_equivalent, renamings_commute, states_stay,
+    losing_programs_differ, meeting_pairs_answer_alike, meeting_pairs_are_equivalent,
+    renamings_commute, states_stay, worked_runs,
 };
 pub use relating::{Invariant, Invariants, View};
+pub use rows::{JoinRow, column_in, id_in, value_at};
+pub use selecting::all_selected;
 pub use small::{Outcome, run_small};
 pub use states::{Placed, Row, State};
+pub use values::value_eq;

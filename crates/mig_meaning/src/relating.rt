@@ -1,5 +1,6 @@
 // What may hold between a state of the old database and one of the new.
-use mig_schema::{ColId, Exact, Join, Seq, Side};
+use mig_base::{Exact, Seq};
+use mig_schema::{ColId, Join, Side};
 use std::alloc::{AllocError, Global};
 
 /// The columns `outs`, in this order, of each row of a join.

@@ -8,23 +8,12 @@ ghost use Rattle.mig_meaning.specs.Values as values;
 
 use crate::states::{Placed, State};
 use crate::values::value_eq;
-use mig_schema::{ColId, Exact, Join, Joined, Seq, Value};
+use mig_base::{Exact, Seq};
+use mig_schema::{ColId, Join, Joined, Value};
 use std::alloc::{AllocError, Global};
 
 /// One row of each joined table, in the join's order.
-pub(crate) type JoinRow = Seq<Placed>;
-
-/// The joined tables, in order.
-pub(crate) fn tables_of(alloc: Global, join: &Join) -> Result<Vec<u32>, AllocError>
-    ensures { IfOk result (λ v. v.items ≡ joins.tables_of join.now) }
-{
-    let mut tables = Vec::new(alloc);
-    tables.push(join.first)?;
-    for joined in join.more.as_slice() {
-        tables.push(joined.table)?;
-    }
-    Ok(tables)
-}
+pub type JoinRow = Seq<Placed>;
 
 /// The rows of table t; none where there is no such table.
 #[tactic(auto, using(std::proofs::lemmas::Grind::common_steps, std::proofs::lemmas::Option::gets))]
@@ -39,7 +28,7 @@ fn rows_of(state: &State, t: u32) -> &[Placed]
 
 /// A copy of the value of a row's column; the int 0 where there is no such column.
 #[tactic(auto, using(std::proofs::lemmas::Grind::common_steps, std::proofs::lemmas::Option::gets))]
-fn value_at(alloc: Global, row: &Placed, column: u32) -> Result<Value, AllocError>
+pub fn value_at(alloc: Global, row: &Placed, column: u32) -> Result<Value, AllocError>
     ensures { IfOk result (λ v. v ≡ spec.value_at row.now column) }
 {
     match row.row.values.get(column as usize) {
@@ -60,9 +49,9 @@ fn place(tables: &[u32], t: usize) -> usize
     tables.len()
 }
 
-/// A copy of the value of a column in a join row of these tables.
+/// A copy of the value of a column in a join row of these tables; the int 0 where there is no such column.
 #[tactic(auto, using(std::proofs::lemmas::Grind::common_steps, std::proofs::lemmas::Option::gets))]
-pub(crate) fn column_in(
+pub fn column_in(
     alloc: Global,
     tables: &[u32],
     row: &[Placed],
@@ -76,9 +65,9 @@ pub(crate) fn column_in(
     }
 }
 
-/// The id of the row of table t in a join row of these tables.
+/// The id of the row of table t in a join row of these tables; 0 where none of them is t.
 #[tactic(auto, using(std::proofs::lemmas::Grind::common_steps, std::proofs::lemmas::Option::gets))]
-pub(crate) fn id_in(tables: &[u32], row: &[Placed], t: usize) -> u64
+pub fn id_in(tables: &[u32], row: &[Placed], t: usize) -> u64
     ensures { result ≡ (spec.row_in tables.now row.now t).id }
 {
     match row.get(place(tables, t)) {
@@ -177,23 +166,19 @@ fn choices(alloc: Global, state: &State, tables: &[u32]) -> Result<Vec<JoinRow>,
     }
 }
 
-/// The join rows, in product order, the first table slowest.
+/// The join rows, in product order, the first table slowest. `tables` are those of the join.
 pub(crate) fn join_rows(
     alloc: Global,
     state: &State,
     join: &Join,
+    tables: &[u32],
 ) -> Result<Vec<JoinRow>, AllocError>
+    requires { tables.now ≡ joins.tables_of join.now }
     ensures { IfOk result (λ v. v.items ≡ spec.join_rows state.now join.now) }
 {
-    let tables = tables_of(alloc, join)?;
     let mut met = Vec::new(alloc);
-    for row in choices(alloc, state, tables.as_slice())? {
-        if meets(
-            alloc,
-            tables.as_slice(),
-            join.more.as_slice(),
-            row.as_slice(),
-        )? {
+    for row in choices(alloc, state, tables)? {
+        if meets(alloc, tables, join.more.as_slice(), row.as_slice())? {
             met.push(row)?;
         }
     }

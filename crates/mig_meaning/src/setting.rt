@@ -5,7 +5,8 @@ ghost use Rattle.mig_meaning.specs.Effect as spec;
 use crate::deleting::takes_part;
 use crate::rows::JoinRow;
 use crate::states::{Placed, Row, State};
-use mig_schema::{ColId, Exact, Seq, Value};
+use mig_base::{Exact, Seq};
+use mig_schema::{ColId, Value};
 use std::alloc::{AllocError, Global};
 
 /// A copy of the new value or of the old one.

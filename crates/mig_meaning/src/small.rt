@@ -1,20 +1,21 @@
 // Runs on states in memory, by the definitions: plain and slow. Faster bodies are compared with these.
-ghost use Rattle.std.specs.Prelude.{◌≡◌, ◌++◌, map, take, drop, slice_index_or, IfOk};
+ghost use Rattle.std.specs.Prelude.{◌≡◌, map, take, drop, IfOk};
 ghost use Rattle.mig_meaning.specs.Conditions as conditions;
 ghost use Rattle.mig_meaning.specs.Effect as effects;
 ghost use Rattle.mig_meaning.specs.Run as spec;
-ghost use Rattle.mig_meaning.specs.Rows as rows;
 ghost use Rattle.mig_schema.specs.Joins as joins;
 ghost use Rattle.mig_meaning.specs.Told.{given_told, rows_told, reply_told, outcome_told};
 
 use crate::calling::{Answer, Calls, Invocation, Keys, Reply};
-use crate::conditions::{Given, met_rows, scalar_value};
+use crate::conditions::met_rows;
 use crate::deleting::without_rows;
+use crate::given::{Given, scalar_value};
 use crate::inserting::with_rows;
-use crate::rows::{JoinRow, column_in, tables_of};
+use crate::selecting::all_selected;
 use crate::setting::with_set;
-use crate::states::{Placed, Row, State};
-use mig_schema::{Body, ColId, Cond, Exact, Join, Program, Query, Scalar, Schema, Seq, Stmt};
+use crate::states::State;
+use mig_base::{Exact, Seq};
+use mig_schema::{Body, ColId, Cond, Join, Program, Query, Scalar, Schema, Stmt, tables_of};
 use std::alloc::{AllocError, Global};
 
 /// What a call leaves and what it answers.
@@ -29,7 +30,7 @@ pub struct Outcome {
 /// The state without the rows of the listed tables that take part in a join row which meets the condition.
 fn delete(
     alloc: Global,
-    given: &Given,
+    given: &Given<'_>,
     listed: &[u32],
     join: &Join,
     cond: &Cond,
@@ -37,15 +38,15 @@ fn delete(
 ) -> Result<State, AllocError>
     ensures { IfOk result (λ s. s ≡ effects.without_rows (joins.tables_of join.now) (conditions.met_rows (given_told given.now) state.now join.now cond.now.cases) listed.now state.now) }
 {
-    let met = met_rows(alloc, given, state, join, cond)?;
     let tables = tables_of(alloc, join)?;
+    let met = met_rows(alloc, given, state, join, tables.as_slice(), cond)?;
     without_rows(alloc, tables.as_slice(), met.as_slice(), listed, state)
 }
 
 /// The state with a value in the column of each row that takes part in a join row which meets the condition.
 fn set(
     alloc: Global,
-    given: &Given,
+    given: &Given<'_>,
     column: ColId,
     scalar: &Scalar,
     join: &Join,
@@ -54,8 +55,8 @@ fn set(
 ) -> Result<State, AllocError>
     ensures { IfOk result (λ s. s ≡ effects.with_set (joins.tables_of join.now) (conditions.met_rows (given_told given.now) state.now join.now cond.now.cases) column (conditions.scalar_value (given_told given.now) scalar.now) state.now) }
 {
-    let met = met_rows(alloc, given, state, join, cond)?;
     let tables = tables_of(alloc, join)?;
+    let met = met_rows(alloc, given, state, join, tables.as_slice(), cond)?;
     let value = scalar_value(alloc, given, scalar)?;
     with_set(
         alloc,
@@ -71,7 +72,7 @@ fn set(
 fn effect(
     alloc: Global,
     schema: &Schema,
-    given: &Given,
+    given: &Given<'_>,
     stmt: &Stmt,
     state: &State,
 ) -> Result<State, AllocError>
@@ -106,7 +107,7 @@ fn effect(
 fn after_all(
     alloc: Global,
     schema: &Schema,
-    given: &Given,
+    given: &Given<'_>,
     stmts: &[Stmt],
     state: &State,
 ) -> Result<State, AllocError>
@@ -121,44 +122,24 @@ fn after_all(
     }
 }
 
-/// The values of these columns in a join row.
-fn selected(
-    alloc: Global,
-    tables: &[u32],
-    row: &[Placed],
-    columns: &[ColId],
-) -> Result<Row, AllocError>
-    ensures { IfOk result (λ r. r.values ≡ map (rows.column_in tables.now row.now) columns.now) }
-{
-    let mut values = Seq::new(alloc);
-    for column in columns {
-        values.push(column_in(alloc, tables, row, *column)?)?;
-    }
-    Ok(Row { values })
-}
-
-/// The selected columns of each of these join rows.
-fn all_selected(
-    alloc: Global,
-    tables: &[u32],
-    met: &[JoinRow],
-    columns: &[ColId],
-) -> Result<Answer, AllocError>
-    ensures { IfOk result (λ a. rows_told a.rows ≡ map (λ e. map (rows.column_in tables.now e) columns.now) met.now) }
-{
-    let mut rows = Seq::new(alloc);
-    for row in met {
-        rows.push(selected(alloc, tables, row.as_slice(), columns)?)?;
-    }
-    Ok(Answer { rows })
-}
-
 /// The answer of a query: the selected columns of each join row that meets the condition.
-fn answer(alloc: Global, given: &Given, query: &Query, state: &State) -> Result<Answer, AllocError>
+fn answer(
+    alloc: Global,
+    given: &Given<'_>,
+    query: &Query,
+    state: &State,
+) -> Result<Answer, AllocError>
     ensures { IfOk result (λ a. rows_told a.rows ≡ effects.answer (given_told given.now) query.now state.now) }
 {
-    let met = met_rows(alloc, given, state, &query.join, &query.cond)?;
     let tables = tables_of(alloc, &query.join)?;
+    let met = met_rows(
+        alloc,
+        given,
+        state,
+        &query.join,
+        tables.as_slice(),
+        &query.cond,
+    )?;
     all_selected(
         alloc,
         tables.as_slice(),
@@ -171,7 +152,7 @@ fn answer(alloc: Global, given: &Given, query: &Query, state: &State) -> Result<
 fn body_outcome(
     alloc: Global,
     schema: &Schema,
-    given: &Given,
+    given: &Given<'_>,
     body: &Body,
     state: &State,
 ) -> Result<Outcome, AllocError>
@@ -201,11 +182,12 @@ fn called(
 ) -> Result<Outcome, AllocError>
     ensures { IfOk result (λ o. outcome_told o ≡ spec.called schema.now program.now call.now keys.now state.now) }
 {
+    let keys = Keys {
+        keys: Seq::from_slice(alloc, keys)?,
+    };
     let given = Given {
-        args: call.args.twin(alloc)?,
-        keys: Keys {
-            keys: Seq::from_slice(alloc, keys)?,
-        },
+        args: &call.args,
+        keys: &keys,
     };
     match program.functions.get(call.function as usize) {
         Some(function) => body_outcome(alloc, schema, &given, &function.body, state),

@@ -1,5 +1,6 @@
 // States of a database: rows that are placed in tables.
-use mig_schema::{Exact, Seq, Value};
+use mig_base::{Exact, Seq};
+use mig_schema::Value;
 use std::alloc::{AllocError, Global};
 
 /// A row: one value for each column of its table, in order.

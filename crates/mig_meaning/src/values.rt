@@ -2,10 +2,11 @@
 ghost use Rattle.std.specs.Prelude.{◌≡◌};
 ghost use Rattle.mig_meaning.specs.Values as spec;
 
-use mig_schema::{Exact, Op, Value};
+use mig_base::Exact;
+use mig_schema::{Op, Value};
 
 /// Whether two values are one. Values of different kinds differ.
-pub(crate) fn value_eq(left: &Value, right: &Value) -> bool
+pub fn value_eq(left: &Value, right: &Value) -> bool
     ensures { result ≡ spec.value_eq left.now right.now }
 {
     left.same(right)

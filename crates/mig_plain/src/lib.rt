@@ -3,7 +3,5 @@
 
 mod columns;
 mod plain;
-#[cfg(test)]
-mod tests;
 
 pub use plain::is_plain;

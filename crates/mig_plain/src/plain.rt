@@ -6,8 +6,11 @@ ghost use Rattle.mig_schema.specs.Columns.{same_col, same_kind};
 ghost use Rattle.mig_schema.specs.Plain as spec;
 ghost use Rattle.mig_schema.specs.Plain.{IsPlain};
 
-use crate::columns::{columns_of, is_first, same_kind};
-use mig_schema::{Assign, Body, Column, Cond, Hint, Job, Kind, Scalar, Schema, Stmt, same_text};
+use crate::columns::is_first;
+use mig_base::same_text;
+use mig_schema::{
+    Assign, Body, Column, Cond, Hint, Job, Kind, Scalar, Schema, Stmt, columns_of, same_kind,
+};
 
 /// Whether some column is of kind key.
 fn has_key(columns: &[Column]) -> bool

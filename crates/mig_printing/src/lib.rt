@@ -3,8 +3,6 @@
 
 mod parts;
 mod program;
-#[cfg(test)]
-mod tests;
 mod words;
 
 pub use parts::{put_col, put_cols, put_join};

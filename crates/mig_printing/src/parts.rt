@@ -9,7 +9,8 @@ use crate::words::{
     column_name, name_of_param, put, put_bytes, put_int, put_kind, put_number, put_op, put_quoted,
     table_name,
 };
-use mig_schema::{Assign, Cmp, ColId, Cond, Item, Join, Joined, Param, Scalar, Schema, Seq, Txt};
+use mig_base::{Seq, Txt};
+use mig_schema::{Assign, Cmp, ColId, Cond, Item, Join, Joined, Param, Scalar, Schema};
 use std::alloc::AllocError;
 
 /// What stands in lists: it is written under the names of a schema and of a function's parameters.

@@ -5,7 +5,8 @@ ghost use Rattle.mig_printing.specs.Printing.{stmt_text, insert_text, values_tex
 
 use crate::parts::{put_col, put_cols, put_join, put_joined, put_scalar, put_where};
 use crate::words::{put, put_bytes};
-use mig_schema::{Assign, Body, Function, Join, Param, Program, Query, Schema, Seq, Stmt, Txt};
+use mig_base::{Seq, Txt};
+use mig_schema::{Assign, Body, Function, Join, Param, Program, Query, Schema, Stmt};
 use std::alloc::{AllocError, Global};
 
 fn put_stmt(out: &mut Txt, schema: &Schema, params: &[Param], stmt: &Stmt) -> Result<(), AllocError>

@@ -2,11 +2,12 @@
 ghost use Rattle.std.specs.Prelude.{◌≡◌, ◌++◌, [], ◌∷◌, OnOk, decimal};
 ghost use Rattle.std.specs.Fmt.{signed_decimal};
 ghost use Rattle.std.specs.List.{flat_map};
-ghost use Rattle.mig_schema.specs.Columns.{table_at, columns_of, column_at};
+ghost use Rattle.mig_schema.specs.Columns.{table_at, column_at};
 ghost use Rattle.mig_printing.specs.Printing.{escaped, quoted, op_text, kind_text, param_name};
 
 use itoa::Buffer;
-use mig_schema::{ColId, Column, Kind, Op, Param, Schema, Txt};
+use mig_base::Txt;
+use mig_schema::{ColId, Kind, Op, Param, Schema, columns_of};
 use std::alloc::AllocError;
 
 /// Appends a text as it is. On want of memory nothing is said of what `out` holds.
@@ -98,17 +99,6 @@ pub(crate) fn table_name(schema: &Schema, table: u32) -> &[u8]
 {
     match schema.tables.get(table as usize) {
         Some(table) => table.name.as_slice(),
-        None => &[],
-    }
-}
-
-/// The columns of the table of this number; none where there is no table.
-#[tactic(auto, using(crate::proofs::PrintLemmas::past))]
-fn columns_of(schema: &Schema, table: u32) -> &[Column]
-    ensures { result.now ≡ columns_of schema.now table }
-{
-    match schema.tables.get(table as usize) {
-        Some(table) => table.columns.as_slice(),
         None => &[],
     }
 }

@@ -3,8 +3,6 @@
 
 mod laws;
 mod spreading;
-#[cfg(test)]
-mod tests;
 
 pub use laws::{
     contradictory_bodies_go, given_literals_go, proper_terms_are_sound,

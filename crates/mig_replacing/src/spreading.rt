@@ -5,7 +5,7 @@ ghost use Rattle.mig_algebra.specs.declared.literals.Lit.TheVariants.{Any};
 ghost use Rattle.mig_replacing.specs.Replaced as spec;
 
 use mig_algebra::{Inner, Lit};
-use mig_schema::{Exact, Seq};
+use mig_base::{Exact, Seq};
 use std::alloc::{AllocError, Global};
 
 /// A literal of a copy of a body.

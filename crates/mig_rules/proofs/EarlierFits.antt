@@ -5,7 +5,7 @@ use Rattle.std.specs.List.{list_all}
 use Rattle.std.proofs.lemmas.Bool.{and_parts, and_from, or_cases, or_left, or_right, eqb-true, eq-eqb, ltb-true, lt-ltb}
 use Rattle.mig_schema.specs.declared.faults.Side.{Side}
 use Rattle.mig_schema.specs.declared.tables.Kind.{Kind}
-use Rattle.mig_schema.specs.Lists.{numbered}
+use Rattle.mig_base.specs.Lists.{numbered}
 use Rattle.mig_schema.specs.Columns.{has_table}
 use Rattle.mig_algebra.specs.declared.atoms.Var.{Var}
 use Rattle.mig_algebra.specs.declared.atoms.Atom.{Atom}

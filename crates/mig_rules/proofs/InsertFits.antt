@@ -13,7 +13,7 @@ use Rattle.mig_schema.specs.declared.programs.Assign.{Assign}
 use Rattle.mig_schema.specs.declared.programs.Function.{Function}
 use Rattle.mig_schema.specs.declared.programs.Stmt.{Stmt}
 use Rattle.mig_schema.specs.declared.programs.Stmt.TheVariants.{Insert, Delete, Set}
-use Rattle.mig_schema.specs.Lists.{numbered}
+use Rattle.mig_base.specs.Lists.{numbered}
 use Rattle.mig_schema.specs.Columns.{columns_of, columns_in, has_table, has_column, kind_of, same_col, same_kind}
 use Rattle.mig_schema.specs.Joins.{tables_of, in_one_class, is_among}
 use Rattle.mig_schema.specs.Typed.{piece_of, scalars_of, scalar_kind, names_no_param, IsTypedPiece}

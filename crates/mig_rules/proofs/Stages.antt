@@ -11,7 +11,7 @@ use Rattle.mig_schema.specs.declared.programs.Assign.{Assign}
 use Rattle.mig_schema.specs.declared.programs.Stmt.{Stmt}
 use Rattle.mig_schema.specs.declared.programs.Stmt.TheVariants.{Insert, Delete, Set}
 use Rattle.mig_schema.specs.declared.values.Value.{Value}
-use Rattle.mig_schema.specs.Lists.{numbered}
+use Rattle.mig_base.specs.Lists.{numbered}
 use Rattle.mig_schema.specs.Joins.{tables_of, is_among}
 use Rattle.mig_meaning.specs.declared.states.State.{State}
 use Rattle.mig_meaning.specs.Rows.{rows_of}

@@ -11,7 +11,7 @@ use Rattle.mig_schema.specs.declared.programs.Scalar.{Scalar}
 use Rattle.mig_schema.specs.declared.programs.Scalar.TheVariants as scalar
 use Rattle.mig_schema.specs.declared.programs.Assign.{Assign}
 use Rattle.mig_schema.specs.declared.values.Value.{Value}
-use Rattle.mig_schema.specs.Lists.{numbered}
+use Rattle.mig_base.specs.Lists.{numbered}
 use Rattle.mig_schema.specs.Columns.{columns_of, has_table, has_column, same_col}
 use Rattle.mig_meaning.specs.declared.states.Placed.{Placed}
 use Rattle.mig_meaning.specs.Lists.{Each}

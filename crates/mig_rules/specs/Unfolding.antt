@@ -6,7 +6,7 @@ use Rattle.mig_schema.specs.declared.programs.Assign.{Assign}
 use Rattle.mig_schema.specs.declared.programs.Joined.{Joined}
 use Rattle.mig_schema.specs.declared.programs.Stmt.{Stmt}
 use Rattle.mig_schema.specs.declared.programs.Stmt.TheVariants.{Insert, Delete, Set}
-use Rattle.mig_schema.specs.Lists.{numbered}
+use Rattle.mig_base.specs.Lists.{numbered}
 use Rattle.mig_schema.specs.Columns.{same_col}
 use Rattle.mig_schema.specs.Joins.{tables_of, is_among}
 use Rattle.mig_algebra.specs.declared.atoms.Var.{Var}

@@ -8,7 +8,8 @@ ghost use Rattle.mig_rules.specs.Forming.{case_term, body_terms};
 use crate::forming::{case_lits, col_atoms, join_lits, join_vars, not_case};
 use crate::proving::{Obligation, Pair};
 use mig_algebra::{Expr, Lit, Term};
-use mig_schema::{Body, Cmp, Function, Join, Query, Seq, Side};
+use mig_base::Seq;
+use mig_schema::{Body, Cmp, Function, Join, Query, Side};
 use std::alloc::{AllocError, Global};
 
 /// Adds that none of these cases is true.

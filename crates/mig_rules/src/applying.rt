@@ -14,7 +14,8 @@ use crate::proving::{Facts, Pair};
 use crate::steps::{Rule, Step, StepFault};
 use crate::unfolding::unfolded;
 use mig_algebra::{Expr, Invariant, Term, Var, View};
-use mig_schema::{Body, Exact, Function, Seq, Side, Stmt};
+use mig_base::{Exact, Seq};
+use mig_schema::{Body, Function, Side, Stmt};
 use std::alloc::{AllocError, Global};
 
 /// The statements of a function; a query has none.

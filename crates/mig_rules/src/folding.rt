@@ -12,7 +12,8 @@ use crate::forming::{join_lits, join_vars, list_of, number, place_in};
 use crate::testing::{Naming, atoms_pass, lit_passes};
 use crate::unfolding::{is_unnamed, leaving_out};
 use mig_algebra::{Atom, Lit, Renaming, Term, Var, View, renamed_atoms, renamed_lit, renamed_lits};
-use mig_schema::{ColId, Exact, Op, Seq, Side};
+use mig_base::{Exact, Seq};
+use mig_schema::{ColId, Op, Side};
 use std::alloc::{AllocError, Global};
 
 /// Which variable of a term with so many of its own is folded, and by which view.

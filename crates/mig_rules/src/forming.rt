@@ -6,7 +6,8 @@ ghost use Rattle.mig_algebra.specs.Obligations as spec;
 ghost use Rattle.mig_rules.specs.Forming as forming;
 
 use mig_algebra::{Atom, Inner, Lit, Var, oriented};
-use mig_schema::{Cmp, ColId, Exact, Item, Join, Joined, Op, Scalar, Seq, Side};
+use mig_base::{Exact, Seq};
+use mig_schema::{Cmp, ColId, Item, Join, Joined, Op, Scalar, Side};
 use std::alloc::{AllocError, Global};
 
 /// A number as the language holds it. One that is no u32 counts as want of memory.

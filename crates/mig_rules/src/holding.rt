@@ -8,7 +8,8 @@ ghost use Rattle.mig_rules.specs.Settings.{statements as spec_statements};
 use crate::forming::{col_atoms, join_lits, join_vars, list_of, number};
 use crate::proving::{Obligation, Pair};
 use mig_algebra::{Atom, Expr, Inner, Invariant, Lit, Term, Var, View, oriented};
-use mig_schema::{Body, ColId, Function, Op, Seq, Side};
+use mig_base::Seq;
+use mig_schema::{Body, ColId, Function, Op, Side};
 use std::alloc::{AllocError, Global};
 
 /// How many statements a function has; a query has none.

@@ -10,12 +10,8 @@ mod keeping;
 mod laws;
 mod limits;
 mod proving;
-#[cfg(test)]
-mod step_tests;
 mod steps;
 mod testing;
-#[cfg(test)]
-mod tests;
 mod unfolding;
 
 pub use answering::answers;

@@ -1,6 +1,7 @@
 // What is to be shown of a pair of functions, and what may be used for it.
 use mig_algebra::{Expr, Invariants};
-use mig_schema::{Exact, Function, Schema};
+use mig_base::Exact;
+use mig_schema::{Function, Schema};
 use std::alloc::{AllocError, Global};
 
 /// A function over the old schema, `source`, and the one over the new schema, `target`, that is to do the same.

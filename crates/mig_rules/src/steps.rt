@@ -1,5 +1,5 @@
 // Steps: a rule, and where in an expression it is used.
-use mig_schema::{Exact, Seq};
+use mig_base::{Exact, Seq};
 use std::alloc::{AllocError, Global};
 
 /// A rule that rewrites an expression to one of the same bag, in the order in which rules are tried.

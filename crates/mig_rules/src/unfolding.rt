@@ -1,7 +1,7 @@
 // A variable of a term unfolded by the statement that leads to its stage.
 ghost use Rattle.std.specs.Prelude.{◌≡◌, ◌==◌, ◌<◌, ◌∷◌, [], Some, cond, IfOk, length};
 ghost use Rattle.mig_schema.specs.Joins.{tables_of, is_among};
-ghost use Rattle.mig_schema.specs.Lists.{numbered};
+ghost use Rattle.mig_base.specs.Lists.{numbered};
 ghost use Rattle.mig_algebra.specs.declared.atoms.Var.{Var as AVar};
 ghost use Rattle.mig_algebra.specs.Rename as rename;
 ghost use Rattle.mig_rules.specs.Unfolding as spec;
@@ -9,7 +9,8 @@ ghost use Rattle.mig_rules.specs.Unfolding as spec;
 use crate::forming::{list_of, scalar_atom};
 use crate::testing::{Naming, lits_pass};
 use mig_algebra::{Atom, Renaming, Term, Var, renamed_atoms, renamed_lits};
-use mig_schema::{Assign, ColId, Exact, Join, Seq, Stmt};
+use mig_base::{Exact, Seq};
+use mig_schema::{Assign, ColId, Join, Stmt};
 use std::alloc::{AllocError, Global};
 
 /// The values that an insert writes in place of a variable.

@@ -10,7 +10,7 @@ use crate::listing::{empty_lists, enter_clauses};
 use crate::queue::{go_on, list_of_number, queued_list};
 use crate::steps::Found;
 use crate::trail::Trail;
-use mig_schema::Seq;
+use mig_base::Seq;
 use std::alloc::{AllocError, Global};
 
 /// For each literal the clauses that hold it, by number, and a place in the queue of lists to go through.

@@ -3,7 +3,7 @@ ghost use Rattle.std.specs.Prelude.{◌↔◌, ◌<◌, All, IsTrue};
 ghost use Rattle.mig_sat.specs.Models.{IsInRange};
 ghost use Rattle.mig_sat.specs.declared.clauses.SatLit.{SatLit as Lit};
 
-use mig_schema::Seq;
+use mig_base::Seq;
 
 /// A variable, or its negation where it is not positive.
 #[derive(Debug, Clone, Copy, PartialEq, Eq)]

@@ -1,6 +1,6 @@
 // Equality and copies of clauses and models.
 use crate::clauses::{Cnf, Model, SatLit};
-use mig_schema::Exact;
+use mig_base::Exact;
 use std::alloc::{AllocError, Global};
 
 impl Exact for SatLit {

@@ -9,7 +9,7 @@ ghost use Rattle.mig_sat.specs.declared.clauses.SatLit.{SatLit as Lit};
 use crate::clauses::{Cnf, SatLit};
 use crate::steps::{Found, Judged};
 use crate::trail::Trail;
-use mig_schema::Seq;
+use mig_base::Seq;
 
 /// What the clause is. It goes no further than to a true literal, or to a second one without a value.
 fn judge(clause: &Seq<SatLit>, trail: &Trail) -> Judged

@@ -6,20 +6,18 @@ mod agenda;
 mod clauses;
 mod exact;
 mod judging;
-#[cfg(test)]
-mod listed_tests;
+mod laws;
 mod listing;
 mod looking;
 mod queue;
 mod solving;
 mod steps;
-#[cfg(test)]
-mod tests;
 mod trail;
 
 pub use advancing::advance;
 pub use agenda::Agenda;
 pub use clauses::{Cnf, Model, SatLit};
+pub use laws::one_first;
 pub use looking::look;
 pub use solving::solve;
 pub use steps::{Found, Step};

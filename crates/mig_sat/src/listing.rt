@@ -3,7 +3,7 @@ ghost use Rattle.std.specs.Prelude.{◌≡◌, ◌<◌, ◌++◌, [], ◌∷◌,
 ghost use Rattle.mig_sat.specs.Agendas.{list_number, IsListedFor, IsGrown, ListsFirst};
 
 use crate::clauses::SatLit;
-use mig_schema::Seq;
+use mig_base::Seq;
 use std::alloc::{AllocError, Global};
 
 /// The list of the clauses that hold the literal.

@@ -9,7 +9,7 @@ use crate::judging::told;
 use crate::listing::list_of;
 use crate::steps::Found;
 use crate::trail::Trail;
-use mig_schema::Seq;
+use mig_base::Seq;
 
 /// The number of the list at a place of the queue.
 pub fn queued_list(trail: &Trail, place: usize) -> usize

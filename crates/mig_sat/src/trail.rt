@@ -5,7 +5,7 @@ ghost use Rattle.mig_sat.specs.Steps.{value_at, HasValuesBelow, turned_back, lit
 
 use crate::clauses::{Model, SatLit};
 use crate::steps::Step;
-use mig_schema::Seq;
+use mig_base::Seq;
 use std::alloc::{AllocError, Global};
 use std::marker;
 

@@ -1,5 +1,5 @@
 -- Joins: their tables and columns, the classes that their equalities make, and their shape.
-use Rattle.std.specs.Prelude.{ℕ, ◌==◌, Bool, true, ◌&&◌, cond, List, [], ◌∷◌, ◌++◌, map}
+use Rattle.std.specs.Prelude.{ℕ, ◌==◌, Bool, true, false, ◌&&◌, ◌||◌, cond, List, [], ◌∷◌, ◌++◌, map}
 use Rattle.std.specs.List.{list_any, flat_map}
 use Rattle.mig_schema.specs.declared.tables.ColId.{ColId}
 use Rattle.mig_schema.specs.declared.tables.Schema.{Schema}
@@ -27,6 +27,11 @@ in_one_class j a b = same_col (leader j.more a) (leader j.more b)
 -- whether a table is among these
 abbrev pub is_among : ℕ → List ℕ → Bool
 is_among t ts = list_any (λ u. u == t) ts
+
+-- whether a table stands twice among joined ones
+abbrev pub twice_among : List Joined → Bool
+twice_among [] = false
+twice_among (m ∷ ms) = list_any (λ (n : Joined). n.table == m.table) ms || twice_among ms
 
 -- whether an equality has a column of an earlier table left and one of the joined table right, of one kind
 abbrev pub joins_on : Schema → (earlier : List ℕ) → Joined → Bool

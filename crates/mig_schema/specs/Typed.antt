@@ -29,7 +29,7 @@ use Rattle.mig_schema.specs.declared.programs.Function.{Function}
 use Rattle.mig_schema.specs.declared.programs.Program.{Program}
 use Rattle.mig_schema.specs.declared.jobs.Hint.{Hint}
 use Rattle.mig_schema.specs.declared.jobs.Job.{Job}
-use Rattle.mig_schema.specs.Lists.{again}
+use Rattle.mig_base.specs.Lists.{again}
 use Rattle.mig_schema.specs.Columns.{columns_of, kind_of, has_table, has_column, same_col, same_kind}
 use Rattle.mig_schema.specs.Joins.{tables_of, join_columns, in_one_class, is_among, all_join_on}
 

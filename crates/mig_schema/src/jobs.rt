@@ -1,8 +1,7 @@
 // Jobs: an old and a new schema, a program over the old one, and hints.
-use crate::exact::Exact;
 use crate::programs::Program;
-use crate::seq::Seq;
 use crate::tables::{ColId, Schema};
+use mig_base::{Exact, Seq};
 use std::alloc::{AllocError, Global};
 
 /// A column of the old schema that is likely to move to a column of the new one, and by what weight.

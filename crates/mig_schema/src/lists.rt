@@ -1,7 +1,7 @@
 // Sets of columns, and joins in an order.
 use crate::programs::Join;
-use crate::seq::Seq;
 use crate::tables::ColId;
+use mig_base::Seq;
 
 /// Sets of columns, of each of which one is needed.
 #[derive(Debug, Drop)]

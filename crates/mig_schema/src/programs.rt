@@ -1,6 +1,6 @@
 // Programs: named functions of statements and queries over a schema.
-use crate::seq::{Seq, Txt};
 use crate::tables::{ColId, Kind};
+use mig_base::{Seq, Txt};
 
 /// A further table of a join: one equality of a column of an earlier table, left, and one of its own, right.
 #[derive(Clone, Copy, Debug, PartialEq, Eq)]

@@ -1,6 +1,6 @@
 // Equality and copies of the parts of statements and queries.
-use crate::exact::Exact;
 use crate::programs::{Assign, Cmp, Cond, Item, Join, Joined, Op, Scalar};
+use mig_base::Exact;
 use std::alloc::{AllocError, Global};
 
 impl Exact for Joined {

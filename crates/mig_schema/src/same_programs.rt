@@ -1,6 +1,6 @@
 // Equality and copies of statements, queries, functions and programs.
-use crate::exact::Exact;
 use crate::programs::{Body, Function, Param, Program, Query, Stmt};
+use mig_base::Exact;
 use std::alloc::{AllocError, Global};
 
 impl Exact for Stmt {

@@ -1,6 +1,5 @@
 // Schemas: tables of named columns, and links between columns.
-use crate::exact::Exact;
-use crate::seq::{Seq, Txt};
+use mig_base::{Exact, Seq, Txt};
 use std::alloc::{AllocError, Global};
 
 /// The kind of a column or of a parameter. No parameter is of kind key.

@@ -1,6 +1,5 @@
 // The values that columns and arguments hold.
-use crate::exact::Exact;
-use crate::seq::Txt;
+use mig_base::{Exact, Txt};
 use std::alloc::{AllocError, Global};
 
 /// A value of a column or of an argument. A key is a number that is only compared.

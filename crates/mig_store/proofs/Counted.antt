@@ -3,7 +3,7 @@ use Rattle.std.proofs.Common.{◌≡◌, ◌≢◌, ◌∙◌, ◌⊎◌, inl, i
 use Rattle.std.specs.Prelude.{Result, Ok, Err}
 use Rattle.std.proofs.lemmas.Bool.{cases_lt, le-leb, lt-leb}
 use Rattle.mig_schema.specs.declared.programs.Program.{Program}
-use Rattle.mig_schema.specs.Lists.{numbered}
+use Rattle.mig_base.specs.Lists.{numbered}
 use Rattle.mig_meaning.specs.declared.calling.Calls.{Calls}
 use Rattle.mig_meaning.specs.declared.calling.Invocation.{Invocation}
 use Rattle.mig_store.specs.declared.faults.CallsFault.{CallsFault}

@@ -9,7 +9,7 @@ use Rattle.mig_meaning.specs.Run.{function_at}
 use Rattle.mig_meaning.proofs.Bags.{same-total}
 use Rattle.mig_algebra.specs.Sorted.{sorted}
 use Rattle.mig_algebra.proofs.SortedLaws.{one_up, sorted-total, sorted-up}
-use Rattle.mig_runs.specs.Runs.{Told}
+use Rattle.mig_store.specs.Runs.{Told}
 use Rattle.mig_store.specs.Law.{SameAnswers}
 use Rattle.mig_store.specs.Order.{row_order}
 use Rattle.mig_store.specs.Writing.{answer_text, answers_text, record_text, row_record}

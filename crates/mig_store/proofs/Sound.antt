@@ -12,18 +12,19 @@ use Rattle.mig_schema.specs.declared.tables.Kind.{Kind}
 use Rattle.mig_schema.specs.declared.tables.Kind.TheVariants as kind
 use Rattle.mig_schema.specs.declared.values.Value.{Value}
 use Rattle.mig_schema.specs.declared.values.Value.TheVariants as value
-use Rattle.mig_schema.specs.Lists.{numbered}
+use Rattle.mig_base.specs.Lists.{numbered}
 use Rattle.mig_meaning.specs.declared.calling.Calls.{Calls}
 use Rattle.mig_meaning.specs.declared.calling.Invocation.{Invocation}
 use Rattle.mig_meaning.specs.Calls.{AreCalls, IsCall, fit}
 use Rattle.mig_meaning.specs.Lists.{Each}
 use Rattle.mig_meaning.specs.Run.{function_at, no_function}
 use Rattle.mig_meaning.specs.Values.{of_kind}
-use Rattle.mig_stores.specs.Layout.{IsShort}
+use Rattle.mig_storage.specs.Layout.{IsShort}
+use Rattle.mig_base.specs.Digits.{is_numeral}
 use Rattle.mig_tokens.specs.Numbers.{int_of, magnitude, most_of}
 use Rattle.mig_store.specs.declared.faults.CallsFault.{CallsFault}
 use Rattle.mig_store.specs.declared.faults.CallsFault.TheVariants as fault
-use Rattle.mig_store.specs.Fields.{are_digits, are_plain_digits, number_below, unsigned, value_spelled}
+use Rattle.mig_store.specs.Fields.{are_digits, number_below, unsigned, value_spelled}
 use Rattle.mig_store.specs.Reading.{Record, all_or_first, argument, arguments, calls_said, fields_in, function_named, name_in, said, said_of, with_arguments, with_first, within_limit}
 
 -- ---- fields
@@ -57,7 +58,7 @@ value-kind kind.Text w v e =
     let is : value.Text w ≡ v = cc g.1 in
     subst (IsOfKind kind.Text) is (refl, short)
 value-kind kind.Key [] v e = cc e
-value-kind kind.Key (b ∷ ds) v e = key-kind (number_below ds) v (given ((b == 35) && are_plain_digits ds) (option_map value.Key (number_below ds)) v e).1
+value-kind kind.Key (b ∷ ds) v e = key-kind (number_below ds) v (given ((b == 35) && is_numeral ds) (option_map value.Key (number_below ds)) v e).1
 
 -- ---- arguments
 

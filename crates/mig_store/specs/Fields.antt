@@ -1,5 +1,5 @@
 -- The values that fields of records spell.
-use Rattle.std.specs.Prelude.{ℕ, Bool, false, not, ◌&&◌, ◌==◌, nat_le, if◌then◌else◌, List, [], ◌∷◌, ◌++◌, length, Option, Some, None, option_map, codes, decimal}
+use Rattle.std.specs.Prelude.{ℕ, Bool, false, ◌&&◌, ◌==◌, nat_le, if◌then◌else◌, List, [], ◌∷◌, ◌++◌, length, Option, Some, None, option_map, codes, decimal}
 use Rattle.std.specs.Fmt.{signed_decimal}
 use Rattle.std.specs.List.{list_all}
 use Rattle.std.specs.Str.{is_utf8}
@@ -7,22 +7,13 @@ use Rattle.mig_schema.specs.declared.tables.Kind.{Kind}
 use Rattle.mig_schema.specs.declared.tables.Kind.TheVariants as kind
 use Rattle.mig_schema.specs.declared.values.Value.{Value}
 use Rattle.mig_schema.specs.declared.values.Value.TheVariants as value
-use Rattle.mig_tokens.specs.Numbers.{digits_from, int_of, magnitude, most_of}
-
--- a decimal digit
-abbrev pub is_digit : ℕ → Bool
-is_digit b = nat_le 48 b && nat_le b 57
+use Rattle.mig_base.specs.Digits.{digits_from, is_digit, is_numeral}
+use Rattle.mig_tokens.specs.Numbers.{int_of, magnitude, most_of}
 
 -- one digit or more
 abbrev pub are_digits : List ℕ → Bool
 are_digits [] = false
 are_digits (b ∷ bs) = is_digit b && list_all is_digit bs
-
--- one digit or more, the first of which is 0 only where it is alone
-abbrev pub are_plain_digits : List ℕ → Bool
-are_plain_digits [] = false
-are_plain_digits (b ∷ []) = is_digit b
-are_plain_digits (b ∷ c ∷ bs) = are_digits (b ∷ c ∷ bs) && not (b == 48)
 
 -- the digits behind an optional minus sign
 abbrev pub unsigned : List ℕ → List ℕ
@@ -44,7 +35,7 @@ number_below ds = if nat_le (digits_from 0 ds) 18446744073709551615 then Some (d
 -- the key that a field spells: the sign # and a number below 2^64 without leading zeros
 abbrev pub key_spelled : List ℕ → Option Value
 key_spelled [] = None
-key_spelled (b ∷ ds) = if (b == 35) && are_plain_digits ds then option_map value.Key (number_below ds) else None
+key_spelled (b ∷ ds) = if (b == 35) && is_numeral ds then option_map value.Key (number_below ds) else None
 
 -- the value of this kind that a field spells
 abbrev pub value_spelled : Kind → List ℕ → Option Value

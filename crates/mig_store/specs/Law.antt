@@ -2,7 +2,7 @@
 use Rattle.std.specs.Prelude.{◌≡◌, List, [], ◌∷◌}
 use Rattle.mig_schema.specs.declared.programs.Program.{Program}
 use Rattle.mig_meaning.specs.Bags.{SameBag}
-use Rattle.mig_runs.specs.Runs.{Told}
+use Rattle.mig_store.specs.Runs.{Told}
 use Rattle.mig_store.specs.Writing.{answers_text}
 
 -- answers of the same calls, each with equal bags of rows

@@ -1,6 +1,11 @@
 pub mod Fields
 pub mod Law
 pub mod Order
+pub mod PlayFaults
+pub mod Playing
 pub mod Reading
+pub mod Runs
+pub mod Stopped
+pub mod Told
 pub mod Writing
 pub mod Written

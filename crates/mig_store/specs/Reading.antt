@@ -5,7 +5,7 @@ use Rattle.csv.specs.Reading.{default_config, records, strip_bom}
 use Rattle.mig_schema.specs.declared.programs.Param.{Param}
 use Rattle.mig_schema.specs.declared.programs.Program.{Program}
 use Rattle.mig_schema.specs.declared.values.Value.{Value}
-use Rattle.mig_schema.specs.Lists.{numbered}
+use Rattle.mig_base.specs.Lists.{numbered}
 use Rattle.mig_meaning.specs.declared.calling.Calls.{Calls}
 use Rattle.mig_meaning.specs.declared.calling.Invocation.{Invocation}
 use Rattle.mig_meaning.specs.Run.{function_at}

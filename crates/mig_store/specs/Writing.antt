@@ -6,7 +6,7 @@ use Rattle.mig_schema.specs.declared.programs.Program.{Program}
 use Rattle.mig_schema.specs.declared.values.Value.{Value}
 use Rattle.mig_meaning.specs.Run.{function_at}
 use Rattle.mig_algebra.specs.Sorted.{sorted}
-use Rattle.mig_runs.specs.Runs.{Told}
+use Rattle.mig_store.specs.Runs.{Told}
 use Rattle.mig_store.specs.Fields.{value_text}
 use Rattle.mig_store.specs.Order.{row_order}
 use Rattle.mig_store.specs.Reading.{Record}

@@ -4,26 +4,17 @@ ghost use Rattle.csv.specs.Records.{fields_of};
 ghost use Rattle.mig_meaning.specs.declared.calling.Invocation.{Invocation as Call};
 ghost use Rattle.mig_meaning.specs.Calls.{AreCalls};
 ghost use Rattle.mig_meaning.specs.Lists.{Each};
-ghost use Rattle.mig_stores.specs.Layout.{IsShort};
+ghost use Rattle.mig_storage.specs.Layout.{IsShort};
 ghost use Rattle.mig_store.specs.declared.faults.CallsFault.TheVariants as fault;
 ghost use Rattle.mig_store.specs.Reading as spec;
 
 use crate::faults::CallsFault;
 use crate::fields::read_value;
 use csv::{ByteRecord, ReaderBuilder};
+use mig_base::{Seq, number};
 use mig_meaning::{Args, Calls, Invocation};
-use mig_schema::{Param, Program, Seq, Value};
-use std::alloc::{AllocError, Global};
-
-/// A number as a u32. One of 2^32 or more counts as want of memory.
-fn number(n: usize) -> Result<u32, AllocError>
-    ensures { IfOk result (λ m. m ≡ n) }
-{
-    match u32::try_from(n) {
-        Ok(m) => Ok(m),
-        Err(_) => Err(AllocError),
-    }
-}
+use mig_schema::{Param, Program, Value};
+use std::alloc::Global;
 
 /// The number of the first function of this name.
 fn function_named(program: &Program, name: &[u8]) -> Option<usize>

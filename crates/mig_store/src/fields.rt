@@ -1,23 +1,11 @@
 // The values that fields spell, and the fields of values.
 ghost use Rattle.std.specs.Prelude.{◌≡◌, ◌++◌, OnOk, IfOk};
-ghost use Rattle.std.specs.List.{list_all};
 ghost use Rattle.mig_store.specs.Fields as spec;
 
-use mig_schema::{Kind, Seq, Txt, Value};
-use mig_tokens::{int_of, is_i64, number_within, spells_utf8};
+use mig_base::{Seq, Txt, all_digits, is_numeral, number_within};
+use mig_schema::{Kind, Value};
+use mig_tokens::{int_of, is_i64, spells_utf8};
 use std::alloc::{AllocError, Global};
-
-/// Whether each byte is a digit.
-fn all_digits(bytes: &[u8]) -> bool
-    ensures { result ≡ list_all spec.is_digit bytes.now }
-{
-    for b in bytes {
-        if !b.is_ascii_digit() {
-            return false;
-        }
-    }
-    true
-}
 
 /// Whether the bytes are one digit or more.
 fn are_digits(bytes: &[u8]) -> bool
@@ -26,17 +14,6 @@ fn are_digits(bytes: &[u8]) -> bool
     match bytes {
         [] => false,
         _ => all_digits(bytes),
-    }
-}
-
-/// Whether the bytes are one digit or more, without a leading zero.
-fn are_plain_digits(bytes: &[u8]) -> bool
-    ensures { result ≡ spec.are_plain_digits bytes.now }
-{
-    match bytes {
-        [] => false,
-        [digit] => digit.is_ascii_digit(),
-        [first, ..] => are_digits(bytes) && *first != b'0',
     }
 }
 
@@ -56,7 +33,7 @@ fn key_in(field: &[u8]) -> Option<Value>
 {
     match field {
         [b'#', digits @ ..] => {
-            if !are_plain_digits(digits) {
+            if !is_numeral(digits) {
                 return None;
             }
             match number_within(u64::MAX, digits) {

@@ -1,24 +1,24 @@
-//! Files of calls read, answers written, and the run between them.
+//! Files of calls read, runs over any store, answers written; and all three in one call.
 #![tactic(auto)]
 
+mod answers;
 mod calls;
 mod faults;
-#[cfg(test)]
-mod field_tests;
 mod fields;
+mod keys;
 mod laws;
 mod order;
-#[cfg(test)]
-mod read_tests;
-#[cfg(test)]
-mod samples;
-#[cfg(test)]
-mod write_tests;
+mod play_faults;
+mod playing;
+mod runs;
 mod writing;
 
+pub use answers::{Answered, Answers};
 pub use calls::read_calls;
 pub use faults::CallsFault;
 pub use fields::read_value;
 pub use laws::equal_bags_have_equal_texts;
-pub use mig_runs::{Answered, Answers, run};
+pub use play_faults::PlayFault;
+pub use playing::play;
+pub use runs::run;
 pub use writing::{answers_text, value_text};

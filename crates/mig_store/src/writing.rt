@@ -6,19 +6,20 @@ ghost use Rattle.mig_meaning.specs.declared.states.Row.{Row as ARow};
 ghost use Rattle.mig_meaning.specs.Lists.{Each};
 ghost use Rattle.mig_meaning.specs.Told.{rows_told};
 ghost use Rattle.mig_algebra.specs.Sorted.{sorted};
-ghost use Rattle.mig_runs.specs.declared.answers.Answered.{Answered as AnAnswer};
-ghost use Rattle.mig_runs.specs.Told.{answered_told};
+ghost use Rattle.mig_store.specs.declared.answers.Answered.{Answered as AnAnswer};
+ghost use Rattle.mig_store.specs.Told.{answered_told};
 ghost use Rattle.mig_store.specs.Fields as fields;
 ghost use Rattle.mig_store.specs.Order as order;
 ghost use Rattle.mig_store.specs.Writing as spec;
 ghost use Rattle.mig_store.specs.Written.{HasWritten};
 
+use crate::answers::{Answered, Answers};
 use crate::order::row_order;
 use csv::{ByteRecord, Writer, WriterBuilder};
 use itoa::Buffer;
+use mig_base::{Seq, Txt};
 use mig_meaning::Row;
-use mig_runs::{Answered, Answers};
-use mig_schema::{Program, Seq, Txt, Value};
+use mig_schema::{Program, Value};
 use std::alloc::{AllocError, Global};
 use std::io::Write;
 

@@ -7,13 +7,13 @@ use Rattle.std.proofs.lemmas.Bool.{or_cases, and_parts, cases_eq, lt-leb, le-leb
 use Rattle.std.proofs.lemmas.Fmt.{decimal_by_steps}
 use Rattle.mig_tokens.specs.declared.token.Token.{Token}
 use Rattle.mig_tokens.specs.declared.token.Token.TheVariants.{Word, Int, Text}
-use Rattle.mig_tokens.specs.declared.fault.Limit.{Limit}
-use Rattle.mig_tokens.specs.Bytes.{is_digit, is_letter, is_name_byte, first_is, after_gap}
-use Rattle.mig_tokens.specs.Numbers.{digits_from}
+use Rattle.mig_schema.specs.declared.limits.Limit.{Limit}
+use Rattle.mig_base.specs.Digits.{digits_from, is_digit}
+use Rattle.mig_tokens.specs.Bytes.{is_letter, is_name_byte, first_is, after_gap}
 use Rattle.mig_tokens.specs.Tokens.{Lexes, first_token, cut, text_at, text_token, joined}
 use Rattle.mig_printing.specs.Printing.{escaped, quoted}
 use Rattle.mig_syntax.specs.Printable.{IsNameText}
-use Rattle.mig_syntax.specs.Within.{FitsInt}
+use Rattle.mig_schema.specs.Within.{FitsInt}
 use Rattle.mig_syntax.proofs.Alls.{all_joined}
 use Rattle.mig_syntax.proofs.Lexing.{Breaks, Prints, Ends}
 

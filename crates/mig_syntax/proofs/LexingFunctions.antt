@@ -16,8 +16,8 @@ use Rattle.mig_schema.specs.declared.programs.Query.{Query}
 use Rattle.mig_schema.specs.declared.programs.Stmt.{Stmt}
 use Rattle.mig_schema.specs.declared.programs.Stmt.TheVariants.{Insert, Delete, Set}
 use Rattle.mig_tokens.specs.declared.token.Token.TheVariants.{Word}
-use Rattle.mig_tokens.specs.declared.fault.Limit.{Limit}
-use Rattle.mig_tokens.specs.declared.fault.Limit.TheVariants as limit
+use Rattle.mig_schema.specs.declared.limits.Limit.{Limit}
+use Rattle.mig_schema.specs.declared.limits.Limit.TheVariants as limit
 use Rattle.mig_tokens.specs.Forms.{Before, no_room, listed, behind_comma, start, word, sign, name, AllOfSome}
 use Rattle.mig_tokens.specs.Limits.{over, first_of, name_mark}
 use Rattle.mig_tokens.specs.Marked.{Marked, bare}

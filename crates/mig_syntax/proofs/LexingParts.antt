@@ -17,8 +17,8 @@ use Rattle.mig_schema.specs.declared.programs.Param.{Param}
 use Rattle.mig_schema.specs.declared.programs.Scalar.{Scalar}
 use Rattle.mig_schema.specs.declared.programs.Scalar.TheVariants as scalar
 use Rattle.mig_tokens.specs.declared.token.Token.TheVariants.{Word, Int, Text}
-use Rattle.mig_tokens.specs.declared.fault.Limit.{Limit}
-use Rattle.mig_tokens.specs.declared.fault.Limit.TheVariants as limit
+use Rattle.mig_schema.specs.declared.limits.Limit.{Limit}
+use Rattle.mig_schema.specs.declared.limits.Limit.TheVariants as limit
 use Rattle.mig_tokens.specs.Forms.{Before, no_room, numbered, led, word, sign, name, AllOfSome}
 use Rattle.mig_tokens.specs.Limits.{over, full, first_of, name_mark, int_mark, text_mark}
 use Rattle.mig_tokens.specs.Marked.{Marked, bare}

@@ -27,7 +27,7 @@ use Rattle.mig_schema.specs.declared.programs.Scalar.{Scalar}
 use Rattle.mig_schema.specs.declared.programs.Scalar.TheVariants as scalar
 use Rattle.mig_schema.specs.declared.programs.Stmt.{Stmt}
 use Rattle.mig_schema.specs.declared.programs.Stmt.TheVariants.{Insert, Delete, Set}
-use Rattle.mig_schema.specs.Lists.{again}
+use Rattle.mig_base.specs.Lists.{again}
 use Rattle.mig_printing.specs.Printing.{table_text, param_name}
 use Rattle.mig_syntax.specs.Naming.{table_of, columns_of, col_of, param_of, number_of, scalar_of, value_of, item_of, cmp_of, cond_of, assign_of, joined_of, join_of, stmt_of, query_of, body_of, function_of, program_of}
 use Rattle.mig_syntax.proofs.FirstOfName.{number_back, item_back}

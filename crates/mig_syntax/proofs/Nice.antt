@@ -24,7 +24,7 @@ use Rattle.mig_tokens.specs.Forms.{AllOfSome}
 use Rattle.mig_grammar.specs.Shapes.{is_param_kind}
 use Rattle.mig_printing.specs.Printing.{table_text, param_name}
 use Rattle.mig_syntax.specs.Printable.{IsNameText}
-use Rattle.mig_syntax.specs.Within.{FitsInt}
+use Rattle.mig_schema.specs.Within.{FitsInt}
 
 module _ (s : Schema) where
   abbrev pub NiceTable : ℕ → Type 0

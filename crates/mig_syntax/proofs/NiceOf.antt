@@ -28,7 +28,7 @@ use Rattle.mig_tokens.specs.Forms.{AllOfSome}
 use Rattle.mig_grammar.specs.Shapes.{is_param_kind}
 use Rattle.mig_printing.specs.Printing.{param_name}
 use Rattle.mig_syntax.specs.Printable.{IsNameText, IsNamedTable, IsNamedSchema, IsSpelledScalar, IsSpelledValue, IsSpelledItem, IsSpelledCmp, AreSpelledCases, IsSpelledStmt, IsSpelledBody, IsSpelledFunction, IsPrintable}
-use Rattle.mig_syntax.specs.Within.{FitsScalar, IsPieceWithin, IsWithin}
+use Rattle.mig_schema.specs.Within.{FitsScalar, IsPieceWithin, IsWithin}
 use Rattle.mig_syntax.proofs.Alls.{all_front, all_back, length_mapped}
 use Rattle.mig_syntax.proofs.FirstOfName.{or_first, or_second}
 use Rattle.mig_syntax.proofs.NamedBack.{HasNames, GoodFunction}

@@ -6,7 +6,7 @@ use Rattle.mig_schema.specs.declared.programs.Program.{Program}
 use Rattle.mig_schema.specs.declared.tables.Schema.{Schema}
 use Rattle.mig_tokens.specs.declared.token.Token.{Token}
 use Rattle.mig_tokens.specs.declared.token.Token.TheVariants.{End}
-use Rattle.mig_tokens.specs.declared.fault.Limit.{Limit}
+use Rattle.mig_schema.specs.declared.limits.Limit.{Limit}
 use Rattle.mig_tokens.specs.Forms.{no_room, start, numbered}
 use Rattle.mig_tokens.specs.Marked.{Marked, bare, clean}
 use Rattle.mig_tokens.specs.Tokens.{Lexes}

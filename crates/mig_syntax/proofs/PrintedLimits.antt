@@ -20,8 +20,8 @@ use Rattle.mig_schema.specs.declared.programs.Scalar.{Scalar}
 use Rattle.mig_schema.specs.declared.programs.Scalar.TheVariants as scalar
 use Rattle.mig_schema.specs.declared.programs.Stmt.{Stmt}
 use Rattle.mig_schema.specs.declared.programs.Stmt.TheVariants.{Insert, Delete, Set}
-use Rattle.mig_tokens.specs.declared.fault.Limit.{Limit}
-use Rattle.mig_tokens.specs.declared.fault.Limit.TheVariants as limit
+use Rattle.mig_schema.specs.declared.limits.Limit.{Limit}
+use Rattle.mig_schema.specs.declared.limits.Limit.TheVariants as limit
 use Rattle.mig_tokens.specs.Forms.{Before, no_room, numbered, led, listed, start, word, sign, AllOfSome}
 use Rattle.mig_tokens.specs.Limits.{over, full}
 use Rattle.mig_tokens.specs.Marked.{Marked}

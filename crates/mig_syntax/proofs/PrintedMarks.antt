@@ -4,15 +4,15 @@ use Rattle.std.specs.Fmt.{signed_decimal}
 use Rattle.std.specs.List.{AllByRecursion, sum_by}
 use Rattle.std.proofs.lemmas.Bool.{le-leb, lt-leb}
 use Rattle.std.proofs.lemmas.List.Sums.{sum_by-cons}
-use Rattle.mig_tokens.specs.declared.fault.Limit.{Limit}
-use Rattle.mig_tokens.specs.declared.fault.Limit.TheVariants as limit
+use Rattle.mig_schema.specs.declared.limits.Limit.{Limit}
+use Rattle.mig_schema.specs.declared.limits.Limit.TheVariants as limit
 use Rattle.mig_tokens.specs.Forms.{Before, behind, no_room, numbered, led, listed, behind_comma, start}
 use Rattle.mig_tokens.specs.Limits.{over, full, first_of, name_mark, int_mark, text_mark}
 use Rattle.mig_tokens.specs.Marked.{Marked}
 use Rattle.mig_tokens.specs.Numbers.{magnitude, is_negative, is_label, label_of, int_of}
 use Rattle.mig_grammar.specs.Spelling.{label_mark}
 use Rattle.mig_syntax.specs.Printable.{IsNameText}
-use Rattle.mig_syntax.specs.Within.{FitsInt}
+use Rattle.mig_schema.specs.Within.{FitsInt}
 use Rattle.mig_syntax.proofs.Alls.{all_joined}
 use Rattle.mig_syntax.proofs.LexingBytes.{Spells, decimal_spells, digit_range}
 use Rattle.mig_syntax.proofs.Unmarked.{IsUnmarked, AreUnmarked}

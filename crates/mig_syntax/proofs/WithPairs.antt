@@ -2,8 +2,8 @@
 use Rattle.std.proofs.Common.{◌≡◌, ℕ, ◌+◌, ◌==◌, ◌<◌, ◌≤◌, Bool, true, false, cond, List, [], ◌∷◌, length, take, Result, Ok, Err, inl, inr, refl, sym, ap, subst, arith, ◌-◌}
 use Rattle.mig_schema.specs.declared.jobs.Job.{Job}
 use Rattle.mig_schema.specs.Typed.{IsTyped}
-use Rattle.mig_tokens.specs.declared.fault.Limit.{Limit}
-use Rattle.mig_tokens.specs.declared.fault.Limit.TheVariants.{Pairs}
+use Rattle.mig_schema.specs.declared.limits.Limit.{Limit}
+use Rattle.mig_schema.specs.declared.limits.Limit.TheVariants.{Pairs}
 use Rattle.mig_tokens.specs.Bytes.{after_gap}
 use Rattle.mig_tokens.specs.Place.{Place, next_place, place_from, behind_tokens, place}
 use Rattle.mig_tokens.specs.Refused.{StandsPast}

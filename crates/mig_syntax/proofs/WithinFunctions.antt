@@ -7,7 +7,7 @@ use Rattle.mig_schema.specs.declared.programs.Param.{Param}
 use Rattle.mig_schema.specs.declared.programs.Stmt.{Stmt}
 use Rattle.mig_schema.specs.declared.tables.Table.{Table}
 use Rattle.mig_schema.specs.Typed.{all_cmps, item_scalars, pieces_of, piece_of, query_piece}
-use Rattle.mig_tokens.specs.declared.fault.Limit.TheVariants as limit
+use Rattle.mig_schema.specs.declared.limits.Limit.TheVariants as limit
 use Rattle.mig_tokens.specs.Forms.{Before, no_room, start, numbered, listed, behind_comma, sign, word}
 use Rattle.mig_tokens.specs.Limits.{over, name_mark}
 use Rattle.mig_grammar.specs.declared.tree.AssignTree.{AssignTree}
@@ -21,7 +21,7 @@ use Rattle.mig_grammar.specs.declared.tree.StmtTree.{StmtTree}
 use Rattle.mig_grammar.specs.declared.tree.StmtTree.TheVariants as stmt_tree
 use Rattle.mig_grammar.specs.Spelling.{col_tokens, scalar_marked, value_tokens, where_tokens, join_tokens, rows_tokens, param_tokens, assign_tokens, deleted_tokens, stmt_tokens, selected_tokens, select_tokens, body_tokens, function_tokens}
 use Rattle.mig_syntax.specs.Naming.{col_of, assign_of, cond_of, stmt_of, query_of, body_of, function_of, program_of}
-use Rattle.mig_syntax.specs.Within.{FitsScalar, IsPieceWithin, IsWithin, IsProgramWithin}
+use Rattle.mig_schema.specs.Within.{FitsScalar, IsPieceWithin, IsWithin, IsProgramWithin}
 use Rattle.mig_syntax.proofs.Alls.{all_joined, all_mapped, all_flat, length_mapped}
 use Rattle.mig_syntax.proofs.Unmarked.{AreUnmarked, front, back, is_below, first_none, each_good, count_below, led_good, led_below}
 use Rattle.mig_syntax.proofs.WithinJoins.{join_within, scalar_within, value_within, SidesFit, cond_few, cond_within}

@@ -7,8 +7,8 @@ use Rattle.mig_schema.specs.declared.programs.Joined.{Joined}
 use Rattle.mig_schema.specs.declared.tables.Table.{Table}
 use Rattle.mig_schema.specs.Joins.{tables_of}
 use Rattle.mig_schema.specs.Typed.{all_cmps, item_scalars}
-use Rattle.mig_tokens.specs.declared.fault.Limit.{Limit}
-use Rattle.mig_tokens.specs.declared.fault.Limit.TheVariants as limit
+use Rattle.mig_schema.specs.declared.limits.Limit.{Limit}
+use Rattle.mig_schema.specs.declared.limits.Limit.TheVariants as limit
 use Rattle.mig_tokens.specs.Forms.{Before, no_room}
 use Rattle.mig_tokens.specs.Limits.{full, text_mark}
 use Rattle.mig_tokens.specs.Numbers.{magnitude, most_of, is_negative, label_of, signed, int_of}
@@ -23,7 +23,7 @@ use Rattle.mig_grammar.specs.declared.tree.ValueTree.{ValueTree}
 use Rattle.mig_grammar.specs.declared.tree.ValueTree.TheVariants as value_tree
 use Rattle.mig_grammar.specs.Spelling.{joined_tokens, join_tokens, scalar_marked, value_tokens, item_marked, cmp_tokens, and_tokens, one_each, case_tokens, or_tokens, where_tokens}
 use Rattle.mig_syntax.specs.Naming.{scalar_of, value_of, item_of, cmp_of, cond_of, joined_of, join_of}
-use Rattle.mig_syntax.specs.Within.{FitsInt, FitsScalar}
+use Rattle.mig_schema.specs.Within.{FitsInt, FitsScalar}
 use Rattle.mig_syntax.proofs.Alls.{all_joined, all_mapped, all_flat, length_mapped, length_cases, length_counted}
 use Rattle.mig_syntax.proofs.Unmarked.{AreUnmarked, front, back, is_below, has_room, at_most, first_none, second_none, led_good, led_room, count_below}
 

@@ -9,7 +9,7 @@ use Rattle.mig_grammar.specs.declared.tree.JobTree.{JobTree}
 use Rattle.mig_grammar.specs.Spelling.{schema_tokens, function_tokens, hints_tokens, job_tokens, program_tokens}
 use Rattle.mig_syntax.specs.Job.{IsJobText}
 use Rattle.mig_syntax.specs.Program.{IsProgramText}
-use Rattle.mig_syntax.specs.Within.{IsProgramWithin}
+use Rattle.mig_schema.specs.Within.{IsProgramWithin}
 use Rattle.mig_syntax.proofs.Unmarked.{AreUnmarked, unmarked, front, back}
 use Rattle.mig_syntax.proofs.WithinFunctions.{program_within}
 

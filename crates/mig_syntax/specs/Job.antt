@@ -3,8 +3,8 @@ use Rattle.std.specs.Prelude.{◌≡◌, ◌⊎◌, ℕ, ◌<◌, ◌≤◌, Lis
 use Rattle.mig_schema.specs.declared.faults.TypeFault.{TypeFault}
 use Rattle.mig_schema.specs.declared.jobs.Job.{Job}
 use Rattle.mig_schema.specs.Typed.{IsTyped}
-use Rattle.mig_tokens.specs.declared.fault.Limit.{Limit}
-use Rattle.mig_tokens.specs.declared.fault.Limit.TheVariants.{Pairs}
+use Rattle.mig_schema.specs.declared.limits.Limit.{Limit}
+use Rattle.mig_schema.specs.declared.limits.Limit.TheVariants.{Pairs}
 use Rattle.mig_tokens.specs.Refused.{StandsWrong, StandsPast}
 use Rattle.mig_grammar.specs.Spelling.{job_tokens}
 use Rattle.mig_grammar.specs.Shapes.{IsJobTree}

@@ -6,4 +6,3 @@ pub mod Pairs
 pub mod Printable
 pub mod Program
 pub mod TypingFault
-pub mod Within

@@ -1,7 +1,7 @@
 -- Texts whose trees of names are named, and then tested by rules: jobs, and programs over a schema.
 use Rattle.std.specs.Prelude.{◌≡◌, ◌⊎◌, ℕ, List, Result, Ok, Err, IfOk}
 use Rattle.mig_schema.specs.declared.faults.TypeFault.{TypeFault}
-use Rattle.mig_tokens.specs.declared.fault.Limit.{Limit}
+use Rattle.mig_schema.specs.declared.limits.Limit.{Limit}
 use Rattle.mig_tokens.specs.Marked.{Marked}
 use Rattle.mig_tokens.specs.Refused.{StandsWrong, StandsPast}
 use Rattle.mig_tokens.specs.Texts.{IsTextOf}

@@ -24,7 +24,7 @@ use Rattle.mig_tokens.specs.Bytes.{is_letter, is_name_byte, first_is}
 use Rattle.mig_tokens.specs.Forms.{AllOfSome}
 use Rattle.mig_tokens.specs.Words.{is_reserved}
 use Rattle.mig_grammar.specs.Shapes.{is_param_kind}
-use Rattle.mig_syntax.specs.Within.{IsProgramWithin}
+use Rattle.mig_schema.specs.Within.{IsProgramWithin}
 
 -- a letter or an underscore, and then letters, digits and underscores; at most 32 bytes, and not reserved
 pub record IsNameText (w : List ℕ) : Type 0 where

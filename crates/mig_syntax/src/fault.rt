@@ -3,8 +3,8 @@ ghost use Rattle.std.specs.Prelude.{◌≡◌};
 ghost use Rattle.mig_syntax.specs.declared.fault.TextFault.TheVariants as text;
 ghost use Rattle.mig_syntax.specs.Faults.{text_fault, type_fault};
 
-use mig_grammar::{Limit, Misread};
-use mig_schema::TypeFault;
+use mig_schema::{Limit, TypeFault};
+use mig_tokens::Misread;
 use std::alloc::AllocError;
 
 /// Why a text is not a job or a program that is within the limits and typed. Lines and columns count from 1, columns in bytes.

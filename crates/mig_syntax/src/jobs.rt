@@ -3,8 +3,8 @@ ghost use Rattle.std.specs.Prelude.{◌≡◌, ℕ, ◌<◌, length, Ok, Err, �
 ghost use Rattle.mig_schema.specs.declared.faults.TypeFault.{TypeFault};
 ghost use Rattle.mig_schema.specs.declared.jobs.Job.{Job};
 ghost use Rattle.mig_schema.specs.Typed.{IsTyped};
-ghost use Rattle.mig_tokens.specs.declared.fault.Limit.{Limit};
-ghost use Rattle.mig_tokens.specs.declared.fault.Limit.TheVariants as limit;
+ghost use Rattle.mig_schema.specs.declared.limits.Limit.{Limit};
+ghost use Rattle.mig_schema.specs.declared.limits.Limit.TheVariants as limit;
 ghost use Rattle.mig_tokens.specs.Refused.{StandsWrong, StandsPast};
 ghost use Rattle.mig_grammar.specs.Spelling.{job_tokens};
 ghost use Rattle.mig_grammar.specs.Shapes.{IsJobTree};
@@ -12,15 +12,15 @@ ghost use Rattle.mig_syntax.specs.declared.fault.TextFault.TheVariants as fault;
 ghost use Rattle.mig_syntax.specs.Job.{IsJobText, IsTypedJobText, IsMistypedJobText, HasManyPairs, IsJobAnswer};
 ghost use Rattle.mig_syntax.specs.Named.{IsTypedAnswer};
 ghost use Rattle.mig_syntax.specs.Naming.{job_of};
-ghost use Rattle.mig_syntax.specs.Within.{IsProgramWithin};
+ghost use Rattle.mig_schema.specs.Within.{IsProgramWithin};
 ghost use Rattle.mig_syntax.specs.TypingFault.{IsTypingFault};
 
 use crate::fault::TextFault;
 use crate::naming::job_of_tree;
 use crate::pairs::has_many_pairs;
 use crate::typing::check_job;
-use mig_grammar::{Limit, read_tree};
-use mig_schema::Job;
+use mig_grammar::read_tree;
+use mig_schema::{Job, Limit};
 use std::alloc::Global;
 
 /// The job that the bytes spell, where it is typed, as one fact.

@@ -4,18 +4,12 @@
 mod fault;
 mod jobs;
 mod naming;
-#[cfg(test)]
-mod pair_tests;
 mod pairs;
-#[cfg(test)]
-mod program_tests;
 mod programs;
-#[cfg(test)]
-mod tests;
 mod typing;
 
 pub use fault::TextFault;
 pub use jobs::read_job;
-pub use mig_grammar::{Limit, Misread, read_functions, read_tree};
 pub use mig_printing::print_program;
+pub use naming::job_of_tree;
 pub use programs::read_program;

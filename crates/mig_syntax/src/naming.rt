@@ -6,16 +6,15 @@ use crate::naming::conditions::{cond_of, join_of};
 use crate::naming::places::col_of;
 use crate::naming::schemas::{all_hints_of, schema_of};
 use crate::naming::statements::stmts_of;
+use mig_base::{Exact, Seq};
 use mig_grammar::{BodyTree, ColName, FunctionTree, JobTree, SelectTree};
-use mig_schema::{Body, ColId, Exact, Function, Job, Param, Program, Query, Seq, Table};
+use mig_schema::{Body, ColId, Function, Job, Param, Program, Query, Table};
 use std::alloc::{AllocError, Global};
 
 mod conditions;
 mod places;
 mod schemas;
 mod statements;
-#[cfg(test)]
-mod tests;
 
 /// Columns, by their numbers.
 fn cols_of(alloc: Global, tables: &[Table], names: &[ColName]) -> Result<Vec<ColId>, AllocError>
@@ -108,7 +107,7 @@ pub(crate) fn program_of(
 /// or by 4294967295 where there is none. A hint's weight is the number that its digits spell, or 0 where that is not
 /// 1 to 100; likewise a label that is not 0 to 15, and an int out of the range of i64, are 0. The only error is want of
 /// memory.
-pub(crate) fn job_of_tree(alloc: Global, tree: &JobTree) -> Result<Job, AllocError>
+pub fn job_of_tree(alloc: Global, tree: &JobTree) -> Result<Job, AllocError>
     ensures { IfOk result (λ j. j ≡ spec.job_of tree.now) }
 {
     let old = tree.source.tables.as_slice();

@@ -2,7 +2,7 @@
 ghost use Rattle.std.specs.Prelude.{◌≡◌, ℕ, ◌<◌, length, Ok, Err, ◌⊎◌, IfOk};
 ghost use Rattle.mig_schema.specs.declared.faults.TypeFault.{TypeFault};
 ghost use Rattle.mig_schema.specs.declared.programs.Program.{Program};
-ghost use Rattle.mig_tokens.specs.declared.fault.Limit.{Limit};
+ghost use Rattle.mig_schema.specs.declared.limits.Limit.{Limit};
 ghost use Rattle.mig_tokens.specs.Refused.{StandsWrong, StandsPast};
 ghost use Rattle.mig_grammar.specs.Spelling.{program_tokens};
 ghost use Rattle.mig_grammar.specs.Shapes.{AreFunctions};
@@ -10,7 +10,7 @@ ghost use Rattle.mig_printing.specs.Printing.{program_text};
 ghost use Rattle.mig_syntax.specs.declared.fault.TextFault.TheVariants as fault;
 ghost use Rattle.mig_syntax.specs.Printable.{IsPrintable};
 ghost use Rattle.mig_syntax.specs.Program.{IsTypedProgramText, IsMistypedProgramText, IsProgramText, IsProgramAnswer};
-ghost use Rattle.mig_syntax.specs.Within.{IsProgramWithin};
+ghost use Rattle.mig_schema.specs.Within.{IsProgramWithin};
 
 use crate::fault::TextFault;
 use crate::naming::program_of;

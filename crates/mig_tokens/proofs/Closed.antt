@@ -3,7 +3,8 @@ use Rattle.std.proofs.Common.{◌≡◌, ℕ, ◌+◌, ◌-◌, Bool, true, fals
 use Rattle.std.specs.Str.{is_utf8}
 use Rattle.mig_tokens.specs.declared.token.Token.{Token}
 use Rattle.mig_tokens.specs.declared.token.Token.TheVariants.{End}
-use Rattle.mig_tokens.specs.Bytes.{is_letter, is_digit, first_is, sign_len}
+use Rattle.mig_base.specs.Digits.{is_digit}
+use Rattle.mig_tokens.specs.Bytes.{is_letter, first_is, sign_len}
 use Rattle.mig_tokens.specs.Marked.{Marked, bare}
 use Rattle.mig_tokens.specs.Tokens.{Lexes, text_at, text_token, first_token}
 use Rattle.mig_tokens.specs.Forms.{Before, numbered, behind_comma, led, listed}

@@ -1,7 +1,7 @@
 -- The laws of reading, one for each way to put parts together.
 use Rattle.std.proofs.Common.{◌≡◌, ℕ, Bool, true, false, cond, List, [], ◌∷◌, ◌++◌, length, Option, Some, None, ◌⊎◌, inl, inr, refl, sym, ap, ◌∙◌, subst, append_assoc}
 use Rattle.mig_tokens.specs.declared.token.Token.{Token}
-use Rattle.mig_tokens.specs.declared.fault.Limit.{Limit}
+use Rattle.mig_schema.specs.declared.limits.Limit.{Limit}
 use Rattle.mig_tokens.specs.Marked.{Marked, clean, bare, head, is_at, first_is}
 use Rattle.mig_tokens.specs.Reading.{Read, Took, Wrong, Past, ◌>>=◌, judged, tried, token_at, give, bind_at, choice_at}
 

@@ -2,7 +2,6 @@ pub mod Answer
 pub mod Choice
 pub mod Closed
 pub mod CommaParts
-pub mod Digits
 pub mod Firsts
 pub mod Laws
 pub mod LexLemmas

@@ -2,7 +2,7 @@
 use Rattle.std.proofs.Common.{◌≡◌, ℕ, ◌+◌, ◌-◌, List, ◌∷◌, length, Ok, Err, inl, inr, refl, sym, ap, ◌∙◌, subst, arith}
 use Rattle.std.proofs.lemmas.List.{length-append}
 use Rattle.mig_tokens.specs.declared.token.Token.{Token}
-use Rattle.mig_tokens.specs.declared.fault.Limit.{Limit}
+use Rattle.mig_schema.specs.declared.limits.Limit.{Limit}
 use Rattle.mig_tokens.specs.declared.fault.ReadError.{ReadError}
 use Rattle.mig_tokens.specs.declared.fault.ReadError.TheVariants as error
 use Rattle.mig_tokens.specs.declared.fault.Misread.TheVariants as fault

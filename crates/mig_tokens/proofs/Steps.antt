@@ -1,7 +1,7 @@
 -- One step of a production after the other.
 use Rattle.std.proofs.Common.{◌≡◌, List, [], ◌∷◌, ◌++◌, Option, Some, refl, sym, ap, ◌∙◌, subst}
 use Rattle.mig_tokens.specs.declared.token.Token.{Token}
-use Rattle.mig_tokens.specs.declared.fault.Limit.{Limit}
+use Rattle.mig_schema.specs.declared.limits.Limit.{Limit}
 use Rattle.mig_tokens.specs.Marked.{Marked, bare, head}
 use Rattle.mig_tokens.specs.Reading.{Read, token_at, give, bind_at}
 use Rattle.mig_tokens.proofs.Laws.{Law, Example, Gives, Any, Both, Single, give_law, narrowed, known_law, token_law, respelled}

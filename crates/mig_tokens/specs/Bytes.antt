@@ -1,10 +1,7 @@
 -- The bytes that tokens and the gaps between them are made of.
 use Rattle.std.specs.Prelude.{ℕ, Bool, false, ◌&&◌, ◌||◌, ◌==◌, nat_le, if◌then◌else◌, List, [], ◌∷◌, codes}
 use Rattle.std.specs.List.{list_any}
-
--- 0 to 9
-abbrev pub is_digit : ℕ → Bool
-is_digit b = nat_le 48 b && nat_le b 57
+use Rattle.mig_base.specs.Digits.{is_digit}
 
 -- a to z, A to Z, or an underscore
 abbrev pub is_letter : ℕ → Bool

@@ -1,7 +1,7 @@
 -- The limits that single tokens and counts pass.
 use Rattle.std.specs.Prelude.{ℕ, ◌==◌, nat_le, nat_lt, cond, List, length, Option, Some, None}
-use Rattle.mig_tokens.specs.declared.fault.Limit.{Limit}
-use Rattle.mig_tokens.specs.declared.fault.Limit.TheVariants as limit
+use Rattle.mig_schema.specs.declared.limits.Limit.{Limit}
+use Rattle.mig_schema.specs.declared.limits.Limit.TheVariants as limit
 use Rattle.mig_tokens.specs.Numbers.{magnitude, most_of}
 
 -- the limit that the next thing passes, where n stand before it and so many may be

@@ -1,7 +1,7 @@
 -- Tokens, and the limits that they pass.
 use Rattle.std.specs.Prelude.{Bool, false, List, [], ◌∷◌, Option, Some, None}
 use Rattle.mig_tokens.specs.declared.token.Token.{Token}
-use Rattle.mig_tokens.specs.declared.fault.Limit.{Limit}
+use Rattle.mig_schema.specs.declared.limits.Limit.{Limit}
 
 -- a token, and the limit that it passes
 abbrev pub Marked : Type 0

@@ -1,10 +1,6 @@
 -- The numbers that tokens spell.
-use Rattle.std.specs.Prelude.{ℕ, ◌+◌, ◌-◌, ◌*◌, Bool, false, not, ◌&&◌, ◌||◌, ◌==◌, nat_le, if◌then◌else◌, ℤ, pos, neg_ℤ, List, [], ◌∷◌}
-
--- the number that decimal digits spell behind digits that spell n
-abbrev pub digits_from : ℕ → List ℕ → ℕ
-digits_from n [] = n
-digits_from n (b ∷ bs) = digits_from (10 * n + (b - 48)) bs
+use Rattle.std.specs.Prelude.{ℕ, Bool, false, not, ◌&&◌, ◌||◌, ◌==◌, nat_le, if◌then◌else◌, ℤ, pos, neg_ℤ, List, [], ◌∷◌}
+use Rattle.mig_base.specs.Digits.{digits_from}
 
 -- whether a minus sign stands first
 abbrev pub is_negative : List ℕ → Bool

@@ -3,7 +3,7 @@ use Rattle.std.specs.Prelude.{ℕ, Bool, false, cond, List, codes, Option, Some,
 use Rattle.std.specs.Str.{bytes_eq}
 use Rattle.mig_tokens.specs.declared.token.Token.{Token}
 use Rattle.mig_tokens.specs.declared.token.Token.TheVariants.{Word, Int, Sign, End}
-use Rattle.mig_tokens.specs.declared.fault.Limit.{Limit}
+use Rattle.mig_schema.specs.declared.limits.Limit.{Limit}
 use Rattle.mig_tokens.specs.Words.{is_reserved}
 use Rattle.mig_tokens.specs.Forms.{Before, behind}
 use Rattle.mig_tokens.specs.Limits.{first_of, name_mark}

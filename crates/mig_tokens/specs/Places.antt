@@ -1,7 +1,7 @@
 -- Where a text leaves a grammar, and where it passes a limit. A grammar is given by the marked tokens that spell each value, and by the values that it has.
 use Rattle.std.specs.Prelude.{◌≡◌, ℕ, List, [], ◌∷◌, ◌++◌, length, Some}
 use Rattle.mig_tokens.specs.declared.token.Token.{Token}
-use Rattle.mig_tokens.specs.declared.fault.Limit.{Limit}
+use Rattle.mig_schema.specs.declared.limits.Limit.{Limit}
 use Rattle.mig_tokens.specs.Marked.{Marked, clean, bare}
 
 -- some sentence begins with these tokens, and passes these limits at them

@@ -1,7 +1,7 @@
 -- Reading: what stands at the front of a list of tokens, and the tokens after it; or how many tokens are left from the first wrong one on, or from the first past a limit on.
 use Rattle.std.specs.Prelude.{ℕ, zero, suc, Bool, cond, List, [], ◌∷◌, ◌++◌, length, Option, Some, None}
 use Rattle.mig_tokens.specs.declared.token.Token.{Token}
-use Rattle.mig_tokens.specs.declared.fault.Limit.{Limit}
+use Rattle.mig_schema.specs.declared.limits.Limit.{Limit}
 use Rattle.mig_tokens.specs.Marked.{first_is}
 
 -- what reading gives

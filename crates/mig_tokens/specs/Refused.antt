@@ -1,7 +1,7 @@
 -- Where a text is refused, by line and column.
 use Rattle.std.specs.Prelude.{◌≡◌, ℕ, ◌-◌, List, Result, Ok, Err, IfOk, ◌⊎◌}
 use Rattle.mig_tokens.specs.declared.token.Token.{Token}
-use Rattle.mig_tokens.specs.declared.fault.Limit.{Limit}
+use Rattle.mig_schema.specs.declared.limits.Limit.{Limit}
 use Rattle.mig_tokens.specs.declared.fault.ReadError.{ReadError}
 use Rattle.mig_tokens.specs.declared.fault.ReadError.TheVariants as error
 use Rattle.mig_tokens.specs.declared.fault.Misread.{Misread}

@@ -4,7 +4,8 @@ use Rattle.std.specs.List.{take_while}
 use Rattle.std.specs.Str.{is_utf8}
 use Rattle.mig_tokens.specs.declared.token.Token.{Token}
 use Rattle.mig_tokens.specs.declared.token.Token.TheVariants.{Word, Int, Text, Sign, Bad}
-use Rattle.mig_tokens.specs.Bytes.{is_digit, is_letter, is_name_byte, first_is, sign_len, after_gap}
+use Rattle.mig_base.specs.Digits.{is_digit}
+use Rattle.mig_tokens.specs.Bytes.{is_letter, is_name_byte, first_is, sign_len, after_gap}
 
 -- the byte that a backslash and this byte stand for
 abbrev pub unescaped : ℕ → Option ℕ

@@ -1,14 +1,10 @@
 // The bytes that tokens and gaps are made of.
 ghost use Rattle.std.specs.Prelude.{◌≡◌, ℕ, ◌+◌, ◌≤◌, length};
 ghost use Rattle.std.specs.List.{take_while};
+ghost use Rattle.mig_base.specs.Digits as digits;
 ghost use Rattle.mig_tokens.specs.Bytes as spec;
 
-/// 0 to 9.
-pub(crate) fn is_digit(b: u8) -> bool
-    ensures { result ≡ spec.is_digit b }
-{
-    b'0' <= b && b <= b'9'
-}
+use mig_base::is_digit;
 
 /// What a name begins with: a letter of ASCII or an underscore.
 pub(crate) fn is_letter(b: u8) -> bool
@@ -40,7 +36,7 @@ pub(crate) fn name_len(bytes: &[u8]) -> usize
 
 /// How many digits stand at the front.
 pub(crate) fn digits_len(bytes: &[u8]) -> usize
-    ensures { result ≡ length (take_while spec.is_digit bytes.now) }
+    ensures { result ≡ length (take_while digits.is_digit bytes.now) }
 {
     bytes.iter().take_while(|b| is_digit(**b)).count()
 }

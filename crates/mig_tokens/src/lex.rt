@@ -1,14 +1,15 @@
 // The bytes of a text as tokens.
 ghost use Rattle.std.specs.Prelude.{◌≡◌, ℕ, ◌<◌, ◌≤◌, ◌∷◌, length, IfOk};
-ghost use Rattle.mig_tokens.specs.Bytes.{first_is, is_digit};
+ghost use Rattle.mig_base.specs.Digits.{is_digit};
+ghost use Rattle.mig_tokens.specs.Bytes.{first_is};
 ghost use Rattle.mig_tokens.specs.Class.{made};
 ghost use Rattle.mig_tokens.specs.Tokens as spec;
 ghost use Rattle.mig_tokens.specs.Texts.{Lexed};
 
-use crate::bytes::{after_gap, digits_len, is_digit, is_letter, name_len, sign_len};
+use crate::bytes::{after_gap, digits_len, is_letter, name_len, sign_len};
 use crate::texts::text_token;
 use crate::token::Token;
-use mig_schema::{Seq, Txt};
+use mig_base::{Seq, Txt, is_digit};
 use std::alloc::{AllocError, Global};
 
 /// Whether a digit is first.

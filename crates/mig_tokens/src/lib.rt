@@ -6,25 +6,20 @@ mod fault;
 mod lex;
 mod limits;
 mod lists;
-#[cfg(test)]
-mod number_tests;
 mod numbers;
 mod pieces;
 mod place;
-#[cfg(test)]
-mod place_tests;
 mod refusals;
-#[cfg(test)]
-mod tests;
 mod texts;
 mod token;
 mod words;
 
-pub use fault::{Limit, Misread, ReadError};
+pub use fault::{Misread, ReadError};
 pub use lex::tokens_to_end;
 pub use limits::{first_of, full, int_limit, name_limit, over, text_limit};
 pub use lists::{Item, led_of, many_of};
-pub use numbers::{int_of, is_i64, is_label, label_of, number_within, weight_of};
+pub use mig_schema::Limit;
+pub use numbers::{int_of, is_i64, is_label, label_of, weight_of};
 pub use pieces::{after_end, after_sign, after_word, is_sign, is_word, name_of};
 pub use refusals::placed;
 pub use texts::spells_utf8;

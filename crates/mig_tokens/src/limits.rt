@@ -2,8 +2,8 @@
 ghost use Rattle.std.specs.Prelude.{◌≡◌};
 ghost use Rattle.mig_tokens.specs.Limits as spec;
 
-use crate::fault::Limit;
 use crate::numbers::is_i64;
+use mig_schema::Limit;
 
 /// This limit, where `count` things stand before the next one and at most `most` may be.
 pub fn over(which: Limit, most: usize, count: usize) -> Option<Limit>

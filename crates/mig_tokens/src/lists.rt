@@ -7,7 +7,7 @@ ghost use Rattle.mig_tokens.specs.Given.{Gives};
 
 use crate::fault::ReadError;
 use crate::token::Token;
-use mig_schema::Seq;
+use mig_base::Seq;
 use std::alloc::Global;
 
 /// A part of a text of the grammar `G` that stands in lists. Behind a comma, an `and` or an `or`, that token belongs to it.

@@ -2,22 +2,7 @@
 ghost use Rattle.std.specs.Prelude.{◌≡◌, ℕ, ◌≤◌, nat_le, cond, Some, None, pos, neg_ℤ};
 ghost use Rattle.mig_tokens.specs.Numbers as spec;
 
-/// The number that decimal digits spell, where it is no more than `most`; else none. Leading zeros are read. Without
-/// digits it is 0. Each byte is taken as its distance from `0`, or as 0 where it is less: whether all are digits is not
-/// tested.
-pub fn number_within(most: u64, digits: &[u8]) -> Option<u64>
-    ensures { result ≡ cond (nat_le (spec.digits_from 0 digits.now) most) (Some (spec.digits_from 0 digits.now)) None }
-{
-    let mut value: u64 = 0;
-    for b in digits {
-        let next = 10 * u128::from(value) + u128::from((*b).saturating_sub(48));
-        if u128::from(most) < next {
-            return None;
-        }
-        value = next as u64;
-    }
-    Some(value)
-}
+use mig_base::number_within;
 
 /// Whether a minus sign stands first.
 fn is_negative(int: &[u8]) -> bool

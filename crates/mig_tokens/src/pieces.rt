@@ -3,11 +3,12 @@ ghost use Rattle.std.specs.Prelude.{◌≡◌};
 ghost use Rattle.mig_tokens.specs.Pieces.{begins_sign, begins_word, word_at, sign_at, name_at, end_at};
 ghost use Rattle.mig_tokens.specs.Given.{Gives};
 
-use crate::fault::{Limit, ReadError};
+use crate::fault::ReadError;
 use crate::limits::{first_of, name_limit};
 use crate::token::Token;
 use crate::words::{is, is_reserved};
-use mig_schema::{Exact, Txt};
+use mig_base::{Exact, Txt};
+use mig_schema::Limit;
 use std::alloc::Global;
 
 /// Whether the token is this sign.

@@ -5,7 +5,7 @@ ghost use Rattle.std.specs.Str.{is_utf8};
 ghost use Rattle.mig_tokens.specs.Tokens as spec;
 
 use crate::token::Token;
-use mig_schema::{Seq, Txt};
+use mig_base::{Seq, Txt};
 use std::alloc::{AllocError, Global};
 
 /// The byte that a backslash and this byte stand for.

@@ -1,5 +1,5 @@
 // The tokens of a text.
-use mig_schema::Txt;
+use mig_base::Txt;
 
 /// A token, with the bytes that spell it.
 #[derive(Debug, Drop)]

@@ -3,18 +3,8 @@ ghost use Rattle.std.specs.Prelude.{◌≡◌, ◌++◌, ◌∷◌, [], IfOk, On
 ghost use Rattle.std.specs.List.{flat_map};
 ghost use Rattle.mig_listing.specs.Choices as spec;
 
-use mig_schema::Seq;
+use mig_base::{Seq, number};
 use std::alloc::{AllocError, Global};
-
-/// The number as a u32; one of 2^32 or more counts as want of memory.
-pub(crate) fn number(n: usize) -> Result<u32, AllocError>
-    ensures { IfOk result (λ k. k ≡ n) }
-{
-    match u32::try_from(n) {
-        Ok(k) => Ok(k),
-        Err(_) => Err(AllocError),
-    }
-}
 
 /// The numbers below n.
 pub(crate) fn numbers(alloc: Global, n: usize) -> Result<Vec<u32>, AllocError>

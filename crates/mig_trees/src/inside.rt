@@ -3,8 +3,8 @@ ghost use Rattle.std.specs.Prelude.{◌≡◌, IfOk};
 ghost use Rattle.mig_schema.specs.Joins as spec_joins;
 ghost use Rattle.mig_trees.specs.Inside as spec;
 
-use crate::choosing::number;
-use mig_schema::{ColId, Schema, Seq};
+use mig_base::{Seq, number};
+use mig_schema::{ColId, Schema};
 use std::alloc::{AllocError, Global};
 
 /// Whether the number is among these.

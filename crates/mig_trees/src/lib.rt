@@ -5,10 +5,7 @@ mod choosing;
 mod inside;
 mod laws;
 mod listing;
-#[cfg(test)]
-mod tests;
 mod writing;
 
 pub use laws::one_answer;
 pub use listing::trees;
-pub use mig_schema::{ColSets, TreeList};

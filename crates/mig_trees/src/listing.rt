@@ -9,7 +9,8 @@ ghost use Rattle.mig_trees.specs.Making.{tree_of, is_tree, trees_over, trees_of}
 use crate::choosing::{choices, numbers};
 use crate::inside::{inside, serves};
 use crate::writing::{covers, written};
-use mig_schema::{ColId, ColSets, Join, Schema, Seq, TreeList};
+use mig_base::Seq;
+use mig_schema::{ColId, ColSets, Join, Schema, TreeList};
 use std::alloc::{AllocError, Global};
 
 /// Adds the trees over these tables with one of these sets of links.

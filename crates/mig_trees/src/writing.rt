@@ -4,7 +4,8 @@ ghost use Rattle.mig_trees.specs.Joining as spec;
 ghost use Rattle.mig_trees.specs.Making.{tree_of, is_taken, has_joined, covers};
 
 use crate::inside::is_among;
-use mig_schema::{Join, Joined, Link, Schema, Seq};
+use mig_base::Seq;
+use mig_schema::{Join, Joined, Link, Schema};
 use std::alloc::{AllocError, Global};
 
 /// The table that the link joins to those taken, the taken table's column left.

@@ -1,13 +1,8 @@
 -- Whether some item of a list that is made of other lists passes a test.
-use Rattle.std.proofs.Common.{◌≡◌, ℕ, ◌+◌, Bool, ◌||◌, List, [], ◌∷◌, ◌++◌, map, length, refl, ap, ◌∙◌}
+use Rattle.std.proofs.Common.{◌≡◌, ℕ, ◌+◌, Bool, ◌||◌, List, [], ◌∷◌, ◌++◌, length, refl, ap, ◌∙◌}
 use Rattle.std.specs.List.{list_any, flat_map, range_with_len}
 use Rattle.std.proofs.lemmas.List.Folds.{list_any-append}
-use Rattle.mig_schema.specs.Lists.{numbered}
-
--- some value passes where some item passes by its value
-pub any-map : {A B : Type 0} (q : B → Bool) (f : A → B) (xs : List A) → list_any q (map f xs) ≡ list_any (λ x. q (f x)) xs
-any-map q f [] = refl
-any-map q f (x ∷ xs) = ap (λ b. q (f x) || b) (any-map q f xs)
+use Rattle.mig_base.specs.Lists.{numbered}
 
 -- some item of all lists passes where some list has one
 pub any-flat_map : {A B : Type 0} (q : B → Bool) (f : A → List B) (xs : List A) → list_any q (flat_map f xs) ≡ list_any (λ x. list_any q (f x)) xs

@@ -4,7 +4,7 @@ use Rattle.std.specs.Prelude.{Option, Some, None, cond}
 use Rattle.std.specs.List.{find}
 use Rattle.std.specs.Option.{is_some}
 use Rattle.std.proofs.lemmas.Bool.{cases_lt, cases_Bool, cond-true, cond-false, both_ways, true≢false, false≢true}
-use Rattle.mig_schema.specs.Lists.{numbered}
+use Rattle.mig_base.specs.Lists.{numbered}
 
 module _ {A B : Type 0} (p : B → Bool) (f : ℕ → B) where
   pub find_none : (n : ℕ) (xs : List A) → ((k : ℕ) → n ≤ k → k < n + length xs → p (f k) ≡ false) → find p (numbered (λ k (x : A). f k) n xs) ≡ None

@@ -5,7 +5,7 @@ use Rattle.std.specs.List.{list_any, range_with_len, slice_get}
 use Rattle.std.specs.Option.{option_map_or, is_some}
 use Rattle.std.proofs.lemmas.Bool.{cases_lt, both_ways, or_from, or_left, or_right}
 use Rattle.std.proofs.lemmas.Option.{slice_get_past}
-use Rattle.mig_schema.specs.Lists.{again}
+use Rattle.mig_base.specs.Lists.{again}
 use Rattle.mig_typing.specs.First.{Before, IsFirstBroken, IsFirst}
 use Rattle.mig_typing.specs.Broken.{item_has}
 

@@ -1,6 +1,5 @@
 -- The columns, tables and scalars of a piece, tested part by part.
 use Rattle.std.proofs.Common.{◌≡◌, ℕ, Bool, true, false, not, ◌||◌, List, [], ◌∷◌, ◌++◌, map, refl, sym, ap, ◌∙◌}
-use Rattle.std.specs.Prelude.{◌==◌}
 use Rattle.std.specs.List.{list_any, flat_map}
 use Rattle.std.proofs.lemmas.List.Folds.{list_any-append}
 use Rattle.mig_schema.specs.declared.tables.ColId.{ColId}
@@ -13,9 +12,9 @@ use Rattle.mig_schema.specs.declared.programs.Cmp.{Cmp}
 use Rattle.mig_schema.specs.declared.programs.Function.{Function}
 use Rattle.mig_schema.specs.Columns.{columns_in, has_table}
 use Rattle.mig_schema.specs.Joins.{join_columns, tables_of, is_among}
-use Rattle.mig_schema.specs.Typed.{Piece, item_columns, item_scalars, used_columns, scalars_of, named_columns, unknown_table, not_joined, unknown_parameter, names_no_param, stands_twice, joined_twice}
-use Rattle.mig_typing.specs.Seen.{twice_among}
-use Rattle.mig_typing.proofs.Anys.{any-map, any-flat_map, any-same}
+use Rattle.mig_schema.specs.Typed.{Piece, item_columns, item_scalars, used_columns, scalars_of, named_columns, unknown_table, not_joined, unknown_parameter, names_no_param}
+use Rattle.mig_schema.proofs.Anys.{any-map}
+use Rattle.mig_typing.proofs.Anys.{any-flat_map, any-same}
 
 or-false : (b : Bool) → (b || false) ≡ b
 or-false true = refl
@@ -72,22 +71,6 @@ joined q s j =
     any-flat_map q (columns_in s) (tables_of j)
     ∙ ap (λ b. list_any q (columns_in s j.first) || b) (any-map (λ t. list_any q (columns_in s t)) (λ (m : Joined). m.table) j.more)
 
--- a table is among a first one and joined ones
-pub among : (t u : ℕ) (ms : List Joined) → is_among t (u ∷ map (λ (m : Joined). m.table) ms) ≡ (u == t || list_any (λ (m : Joined). m.table == t) ms)
-among t u ms = ap (λ b. u == t || b) (any-map (λ v. v == t) (λ (m : Joined). m.table) ms)
-
 -- the comparisons of a condition, case by case
 pub in_cases : (q : Cmp → Bool) (cases : List (List Cmp)) → list_any q (flat_map (λ case. case) cases) ≡ list_any (λ case. list_any q case) cases
 in_cases q cases = any-flat_map q (λ case. case) cases
-
-twice_joined : (ms : List Joined) → stands_twice (map (λ (m : Joined). m.table) ms) ≡ twice_among ms
-twice_joined [] = refl
-twice_joined (m ∷ ms) =
-    ap (λ b. b || stands_twice (map (λ (m : Joined). m.table) ms)) (any-map (λ t. t == m.table) (λ (m : Joined). m.table) ms)
-    ∙ ap (λ b. list_any (λ (n : Joined). n.table == m.table) ms || b) (twice_joined ms)
-
--- a table stands twice among the joined ones, the first included, or among the listed ones
-pub twice : (p : Piece) → joined_twice p ≡ ((list_any (λ (m : Joined). m.table == p.join.first) p.join.more || twice_among p.join.more) || stands_twice p.listed)
-twice p =
-    ap (λ b. (b || stands_twice (map (λ (m : Joined). m.table) p.join.more)) || stands_twice p.listed) (any-map (λ t. t == p.join.first) (λ (m : Joined). m.table) p.join.more)
-    ∙ ap (λ b. (list_any (λ (m : Joined). m.table == p.join.first) p.join.more || b) || stands_twice p.listed) (twice_joined p.join.more)

@@ -1,7 +1,6 @@
 -- What the rules look at in a statement or a query, as the code holds it.
-use Rattle.std.specs.Prelude.{◌==◌, Bool, false, ◌||◌, List, [], ◌∷◌}
-use Rattle.std.specs.List.{flat_map, list_any}
-use Rattle.mig_schema.specs.declared.programs.Joined.{Joined}
+use Rattle.std.specs.Prelude.{List, [], ◌∷◌}
+use Rattle.std.specs.List.{flat_map}
 use Rattle.mig_schema.specs.declared.programs.Assign.{Assign}
 use Rattle.mig_schema.specs.Typed as typing
 use Rattle.mig_typing.specs.declared.pieces.Written.{Written}
@@ -16,8 +15,3 @@ assigns (Set column value) = record { column = column; value = value.now } ∷ [
 -- the piece that is held
 abbrev pub seen : Piece → typing.Piece
 seen p = record { join = p.join.now; listed = p.listed.now; selected = p.selected.now; written = assigns p.written; compared = flat_map (λ case. case) p.cases.now; inserts = p.inserts }
-
--- whether a table stands twice among joined ones
-abbrev pub twice_among : List Joined → Bool
-twice_among [] = false
-twice_among (m ∷ ms) = list_any (λ (n : Joined). n.table == m.table) ms || twice_among ms

@@ -3,11 +3,11 @@ ghost use Rattle.std.specs.Prelude.{◌≡◌, [], ◌∷◌, Bool};
 ghost use Rattle.std.specs.List.{list_any};
 ghost use Rattle.std.specs.Str.{bytes_eq};
 ghost use Rattle.mig_schema.specs.Columns.{same_col as spec_same_col};
-ghost use Rattle.mig_schema.specs.Lists.{again};
+ghost use Rattle.mig_base.specs.Lists.{again};
 ghost use Rattle.mig_typing.specs.First.{IsFirst};
 
-use crate::joins::same_col;
-use mig_schema::{Column, Function, Hint, Param, Table, same_text};
+use mig_base::same_text;
+use mig_schema::{Column, Function, Hint, Param, Table, same_col};
 
 /// Items of which two may be alike.
 pub(crate) trait Alike {

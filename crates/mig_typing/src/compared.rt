@@ -6,9 +6,9 @@ ghost use Rattle.mig_schema.specs.declared.tables.Kind.TheVariants.{Int};
 ghost use Rattle.mig_schema.specs.Typed as typing;
 ghost use Rattle.mig_typing.specs.Seen.{assigns};
 
-use crate::columns::{kind_of, same_kind};
 use crate::pieces::Written;
-use mig_schema::{Assign, Cmp, Function, Item, Kind, Op, Scalar, Schema, Seq};
+use mig_base::Seq;
+use mig_schema::{Assign, Cmp, Function, Item, Kind, Op, Scalar, Schema, kind_of, same_kind};
 
 /// What may be wrong with a comparison.
 pub(crate) trait CmpTest {

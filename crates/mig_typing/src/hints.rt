@@ -7,8 +7,7 @@ ghost use Rattle.mig_typing.specs.First.{IsFirst, IsOkWhere, IsFaultWhere};
 ghost use Rattle.mig_typing.specs.Broken.{hint_rank, numbers, hint_broken, hints_break};
 
 use crate::again::is_again;
-use crate::columns::{has_column, kind_of, same_kind};
-use mig_schema::{Hint, HintRule, Job, TypeFault};
+use mig_schema::{Hint, HintRule, Job, TypeFault, has_column, kind_of, same_kind};
 use std::alloc::Global;
 
 /// Whether an end of a hint names no column.

@@ -6,34 +6,7 @@ ghost use Rattle.mig_schema.specs.Columns as columns;
 ghost use Rattle.mig_schema.specs.Joins as spec;
 ghost use Rattle.mig_typing.specs.Classes as classes;
 
-use crate::columns::columns_of;
-use mig_schema::{ColId, Join, Joined, Schema};
-
-/// Whether two columns are one.
-pub(crate) fn same_col(left: ColId, right: ColId) -> bool
-    ensures { result ≡ columns.same_col left right }
-{
-    left.table == right.table && left.column == right.column
-}
-
-/// One column of the class of `column` under these equalities.
-fn leader(more: &[Joined], column: ColId) -> ColId
-    ensures value { result ≡ spec.leader more.now column }
-    // The columns of an equality have numbers of 32 bits, so a greater number stands alone.
-    ensures wide { (c : Col) → 2 ^ 32 ≤ c.column → spec.leader more.now c ≡ c }
-{
-    match more {
-        [] => column,
-        [joined, rest @ ..] => {
-            let own = leader(rest, column);
-            if same_col(own, leader(rest, joined.right)) {
-                leader(rest, joined.left)
-            } else {
-                own
-            }
-        }
-    }
-}
+use mig_schema::{ColId, Join, Joined, Schema, columns_of, leader, same_col};
 
 /// One column for each class of a join's columns: two columns are in one class exactly where theirs is the same.
 /// It calls itself three times for each further table of the join.

@@ -1,14 +1,16 @@
 // The columns and tables that a piece names, tested one by one.
-ghost use Rattle.std.specs.Prelude.{◌≡◌, ◌==◌, ◌∷◌, ◌||◌, map, not};
+ghost use Rattle.std.specs.Prelude.{◌≡◌, ◌||◌, not};
 ghost use Rattle.std.specs.List.{list_any, flat_map};
 ghost use Rattle.mig_schema.specs.Columns.{has_table as spec_has_table, has_column as spec_has_column};
 ghost use Rattle.mig_schema.specs.Joins.{tables_of, is_among};
 ghost use Rattle.mig_schema.specs.Typed as typing;
 ghost use Rattle.mig_typing.specs.Seen.{seen, assigns};
 
-use crate::columns::{has_column, has_table};
 use crate::pieces::{Piece, Written};
-use mig_schema::{Assign, Cmp, ColId, Item, Join, Joined, Schema, Seq};
+use mig_base::Seq;
+use mig_schema::{
+    Assign, Cmp, ColId, Item, Join, Joined, Schema, has_column, has_table, is_in_join,
+};
 
 /// What may be wrong with a column.
 pub(crate) trait ColumnTest {
@@ -60,29 +62,8 @@ impl ColumnTest for NotIn<'_> {
     ghost wrong = { λ test c. not (is_among c.table (tables_of test.join.now)) };
 
     fn is_wrong(&self, column: ColId) -> bool {
-        !is_joined(self.join, column.table)
+        !is_in_join(self.join, column.table)
     }
-}
-
-/// Whether a table is one of these joined ones.
-pub(crate) fn is_joined_table(joined: &[Joined], t: u32) -> bool
-    ensures { result ≡ list_any (λ m. m.table == t) joined.now }
-{
-    joined.iter().any(|m| m.table == t)
-}
-
-/// Whether a table is the first one, or one of these joined ones.
-pub(crate) fn is_earlier(first: u32, joined: &[Joined], t: u32) -> bool
-    ensures { result ≡ is_among t (first ∷ map (λ m. m.table) joined.now) }
-{
-    first == t || is_joined_table(joined, t)
-}
-
-/// Whether a table is in a join.
-pub(crate) fn is_joined(join: &Join, t: u32) -> bool
-    ensures { result ≡ is_among t (tables_of join.now) }
-{
-    is_earlier(join.first, join.more.as_slice(), t)
 }
 
 /// Whether a selected column is wrong.

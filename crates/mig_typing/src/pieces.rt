@@ -3,7 +3,8 @@ ghost use Rattle.std.specs.Prelude.{◌≡◌};
 ghost use Rattle.mig_schema.specs.Typed as typing;
 ghost use Rattle.mig_typing.specs.Seen.{seen};
 
-use mig_schema::{Assign, Cmp, ColId, Join, Query, Scalar, Seq, Stmt};
+use mig_base::Seq;
+use mig_schema::{Assign, Cmp, ColId, Join, Query, Scalar, Stmt};
 
 /// The values that a statement writes: those of an insert, or the one of a set.
 #[derive(Clone, Copy)]

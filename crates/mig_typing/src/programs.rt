@@ -10,7 +10,8 @@ ghost use Rattle.mig_typing.specs.Seen.{seen};
 use crate::again::{first_again, is_again};
 use crate::pieces::{Piece, piece_of, query_piece};
 use crate::rules::breaks;
-use mig_schema::{Body, Function, Program, ProgramRule, Schema, Seq, Stmt, TypeFault};
+use mig_base::Seq;
+use mig_schema::{Body, Function, Program, ProgramRule, Schema, Stmt, TypeFault};
 use std::alloc::Global;
 
 /// The rules in the order in which they are tested.

@@ -1,23 +1,23 @@
 // The rules for statements and queries, one test each.
-ghost use Rattle.std.specs.Prelude.{◌≡◌, ◌==◌, ◌∷◌, ◌||◌, ◌&&◌, [], not, map};
+ghost use Rattle.std.specs.Prelude.{◌≡◌, ◌==◌, ◌||◌, ◌&&◌, [], not};
 ghost use Rattle.std.specs.List.{list_any, count_by, range_with_len};
 ghost use Rattle.mig_schema.specs.Columns.{columns_in, has_table as spec_has_table};
 ghost use Rattle.mig_schema.specs.Joins as joins;
 ghost use Rattle.mig_schema.specs.Joins.{is_among, tables_of};
 ghost use Rattle.mig_schema.specs.Typed as typing;
 ghost use Rattle.mig_typing.specs.Broken.{piece_broken};
-ghost use Rattle.mig_typing.specs.Seen.{seen, twice_among};
+ghost use Rattle.mig_typing.specs.Seen.{seen};
 
-use crate::columns::{columns_of, has_table, kind_of, same_kind};
 use crate::compared::{
     KindsDiffer, NoParam, OrdersOthers, any_cmp, written_differs, written_names_none,
 };
 use crate::joins::is_in_class;
-use crate::named::{
-    NoColumn, NoTable, NotIn, any_named, any_used, is_earlier, is_joined, is_joined_table,
-};
+use crate::named::{NoColumn, NoTable, NotIn, any_named, any_used};
 use crate::pieces::{Piece, Written};
-use mig_schema::{Assign, Function, Join, Joined, ProgramRule, Schema};
+use mig_schema::{
+    Assign, Function, Join, Joined, ProgramRule, Schema, all_join_on, columns_of, has_table,
+    is_in_join, joins_twice,
+};
 
 /// Whether one of these tables is not in the schema.
 fn any_unknown(schema: &Schema, tables: &[u32]) -> bool
@@ -67,46 +67,14 @@ fn stands_twice(tables: &[u32]) -> bool
     }
 }
 
-/// Whether a table stands twice among joined ones.
-fn joins_twice(joined: &[Joined]) -> bool
-    ensures { result ≡ twice_among joined.now }
-{
-    match joined {
-        [] => false,
-        [m, rest @ ..] => is_joined_table(rest, m.table) || joins_twice(rest),
-    }
-}
-
 /// Whether a table stands twice in the join, or in the list of a delete.
 fn joined_twice(piece: &Piece) -> bool
     ensures { result ≡ typing.joined_twice (seen piece.now) }
 {
-    let more = piece.join.more.as_slice();
-    is_joined_table(more, piece.join.first) || joins_twice(more) || stands_twice(piece.listed)
+    joins_twice(piece.join) || stands_twice(piece.listed)
 }
 
-/// Whether an equality has a column of an earlier table left and one of the joined table right, of one kind.
-fn joins_on(schema: &Schema, first: u32, before: &[Joined], joined: &Joined) -> bool
-    ensures { result ≡ joins.joins_on schema.now (first ∷ map (λ m. m.table) before.now) joined.now }
-{
-    is_earlier(first, before, joined.left.table)
-        && joined.right.table == joined.table
-        && same_kind(kind_of(schema, joined.left), kind_of(schema, joined.right))
-}
-
-/// Whether each equality of a join does.
-fn all_join_on(schema: &Schema, first: u32, joined: &[Joined]) -> bool
-    ensures { result ≡ joins.all_join_on schema.now (first ∷ []) joined.now }
-{
-    for i in 0..joined.len() {
-        if !joins_on(schema, first, &joined[..i], &joined[i]) {
-            return false;
-        }
-    }
-    true
-}
-
-/// Whether an equality of the join does not.
+/// Whether an equality of the join has not a column of an earlier table left and one of the joined table right, of one kind.
 fn on_shape(schema: &Schema, piece: &Piece) -> bool
     ensures { result ≡ typing.on_shape schema.now (seen piece.now) }
 {
@@ -124,7 +92,7 @@ fn unknown_parameter(function: &Function, piece: &Piece) -> bool
 fn any_not_joined(join: &Join, tables: &[u32]) -> bool
     ensures { result ≡ list_any (λ t. not (is_among t (tables_of join.now))) tables.now }
 {
-    tables.iter().any(|t| !is_joined(join, *t))
+    tables.iter().any(|t| !is_in_join(join, *t))
 }
 
 /// Whether the table of a used column, or a deleted table, is not in the join.

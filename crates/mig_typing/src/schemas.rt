@@ -8,8 +8,7 @@ ghost use Rattle.mig_typing.specs.First.{IsFirst, IsOkWhere, IsFaultWhere};
 ghost use Rattle.mig_typing.specs.Broken.{schema_rank, numbers, item_has, schema_broken, schema_breaks};
 
 use crate::again::first_again;
-use crate::columns::{has_column, kind_of, same_kind};
-use mig_schema::{Link, Schema, SchemaRule, Side, TypeFault};
+use mig_schema::{Link, Schema, SchemaRule, Side, TypeFault, has_column, kind_of, same_kind};
 use std::alloc::Global;
 
 /// The rules in the order in which they are tested.

@@ -6,8 +6,8 @@ use Rattle.std.proofs.lemmas.Bool.{and_parts}
 use Rattle.std.proofs.lemmas.Slice.Eq.{bytes_eq-Decides}
 use Rattle.mig_words.specs.declared.command.WordFault.TheVariants.{UnknownWord, Twice, Number}
 use Rattle.mig_words.specs.declared.settings.Setting.{Setting}
-use Rattle.mig_tokens.specs.Bytes.{is_digit}
-use Rattle.mig_words.specs.Words.{is_dashed, is_numeral, is_within}
+use Rattle.mig_base.specs.Digits.{is_digit, is_numeral}
+use Rattle.mig_words.specs.Words.{is_dashed, is_within}
 use Rattle.mig_words.specs.Files.{is_plain}
 use Rattle.mig_words.specs.Settings.{setting_named}
 use Rattle.mig_words.specs.Faults.{is_setting, ends_with_setting, is_trial, wants_number, is_repeated, fault_at}

@@ -2,7 +2,7 @@
 ghost use Rattle.std.specs.Prelude.{◌≡◌};
 ghost use Rattle.mig_words.specs.declared.command.WordFault.TheVariants.{Memory};
 
-use mig_schema::Word;
+use mig_base::Word;
 use std::alloc::AllocError;
 
 /// How far a migration searches.

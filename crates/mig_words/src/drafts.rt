@@ -6,7 +6,7 @@ ghost use Rattle.mig_words.specs.Settings.{setting_named};
 use crate::command::{Options, WordFault};
 use crate::numbers::is_dashed;
 use crate::settings::Setting;
-use mig_schema::{Exact, Word};
+use mig_base::{Exact, Word};
 use std::alloc::Global;
 
 /// What the words behind `migrate` have given.

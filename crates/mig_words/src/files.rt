@@ -4,7 +4,7 @@ ghost use Rattle.mig_words.specs.Files as spec;
 
 use crate::command::WordFault;
 use crate::numbers::is_dashed;
-use mig_schema::Word;
+use mig_base::Word;
 
 /// Refuses the first of these words that names no file or has `most` before it. One word stands before them all.
 pub fn only_files(words: &[Word], most: usize) -> Result<(), WordFault>

@@ -9,8 +9,6 @@ mod numbers;
 mod others;
 mod reading;
 mod settings;
-#[cfg(test)]
-mod tests;
 
 pub use command::{Command, Options, WordFault};
 pub use reading::read_words;

@@ -6,7 +6,7 @@ ghost use Rattle.mig_words.specs.Faults.{IsFault};
 
 use crate::command::{Command, WordFault};
 use crate::drafts::Draft;
-use mig_schema::Word;
+use mig_base::Word;
 use std::alloc::Global;
 
 /// What the words behind `migrate` give.

@@ -7,7 +7,7 @@ ghost use Rattle.mig_words.specs.Files.{IsThird};
 use crate::command::{Command, WordFault};
 use crate::files::only_files;
 use crate::numbers::number_in;
-use mig_schema::{Exact, Word};
+use mig_base::{Exact, Word};
 use std::alloc::Global;
 
 /// The command `check` with these words behind it: a job and an answer.

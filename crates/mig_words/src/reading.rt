@@ -8,7 +8,7 @@ ghost use Rattle.mig_words.specs.Faults.{IsFault};
 use crate::command::{Command, WordFault};
 use crate::migrate::read_migrate;
 use crate::others::{read_check, read_run, read_trial};
-use mig_schema::Word;
+use mig_base::Word;
 use std::alloc::Global;
 
 /// The command with this name and these words behind it.

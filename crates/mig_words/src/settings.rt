@@ -4,7 +4,7 @@ ghost use Rattle.mig_words.specs.Settings as spec;
 ghost use Rattle.mig_words.specs.Words.{number_of};
 
 use crate::numbers::number_in;
-use mig_schema::Word;
+use mig_base::Word;
 
 /// An option of `migrate`. A number follows it.
 #[derive(Clone, Copy, Debug, PartialEq, Eq)]

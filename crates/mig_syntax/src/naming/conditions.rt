@@ -3,8 +3,9 @@ ghost use Rattle.std.specs.Prelude.{◌≡◌, IfOk, map};
 ghost use Rattle.mig_syntax.specs.Naming as spec;
 
 use crate::naming::places::{col_of, param_of, table_of};
+use mig_base::{Exact, Seq};
 use mig_grammar::{CmpTree, ItemTree, JoinTree, JoinedTree, ScalarTree, ValueTree};
-use mig_schema::{Cmp, Cond, Exact, Item, Join, Joined, Param, Scalar, Seq, Table};
+use mig_schema::{Cmp, Cond, Item, Join, Joined, Param, Scalar, Table};
 use mig_tokens::{int_of, label_of};
 use std::alloc::{AllocError, Global};
 

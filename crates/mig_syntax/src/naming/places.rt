@@ -5,8 +5,9 @@ ghost use Rattle.std.specs.Option.{option_copied};
 ghost use Rattle.std.specs.Str.{bytes_eq};
 ghost use Rattle.mig_syntax.specs.Naming as spec;
 
+use mig_base::{Txt, same_text};
 use mig_grammar::ColName;
-use mig_schema::{ColId, Column, Param, Table, Txt, same_text};
+use mig_schema::{ColId, Column, Param, Table};
 
 /// The number that stands for a name which is not found.
 const NOWHERE: u32 = u32::MAX;

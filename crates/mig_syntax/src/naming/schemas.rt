@@ -3,8 +3,9 @@ ghost use Rattle.std.specs.Prelude.{◌≡◌, IfOk, map};
 ghost use Rattle.mig_syntax.specs.Naming as spec;
 
 use crate::naming::places::col_of;
+use mig_base::{Exact, Seq};
 use mig_grammar::{HintTree, LinkTree, SchemaTree};
-use mig_schema::{Exact, Hint, Link, Schema, Seq, Table};
+use mig_schema::{Hint, Link, Schema, Table};
 use mig_tokens::weight_of;
 use std::alloc::{AllocError, Global};
 

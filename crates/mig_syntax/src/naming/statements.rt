@@ -5,8 +5,9 @@ ghost use Rattle.mig_syntax.specs.Naming as spec;
 
 use crate::naming::conditions::{cond_of, join_of, scalar_of, value_of};
 use crate::naming::places::{col_of, table_of};
+use mig_base::{Seq, Txt};
 use mig_grammar::{AssignTree, ColName, JoinTree, RowsTree, ScalarTree, StmtTree};
-use mig_schema::{Assign, Param, Seq, Stmt, Table, Txt};
+use mig_schema::{Assign, Param, Stmt, Table};
 use std::alloc::{AllocError, Global};
 
 /// A value for a column, with numbers.

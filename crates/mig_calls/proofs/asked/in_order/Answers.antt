@@ -7,7 +7,7 @@ use Rattle.std.proofs.lemmas.List.Sorted.{All-permutation, IsNonDecreasingBy-fro
 use Rattle.mig_meaning.specs.declared.states.Placed.{Placed}
 use Rattle.mig_meaning.specs.Lists.{Each, In}
 use Rattle.mig_meaning.specs.States.{Rising}
-use Rattle.mig_calls.proofs.Lists.{all-each, any-dedup, each-all, each-by, each-dedup}
+use Rattle.mig_meaning.proofs.Lists.{all-each, any-dedup, each-all, each-by, each-dedup}
 use Rattle.mig_calls.proofs.OrderLemmas.{rising-dedup, same_id}
 use Rattle.mig_calls.proofs.asked.in_order.Goals as goal
 

@@ -7,8 +7,8 @@ use Rattle.mig_meaning.specs.Rows.{rows_of}
 use Rattle.mig_meaning.proofs.StateLaw.{each-in}
 use Rattle.mig_meaning.proofs.Steps.{flat_map-next}
 use Rattle.mig_meaning.proofs.Within.{each-append, each-weaker}
-use Rattle.mig_stores.specs.Changes.{has_id}
-use Rattle.mig_stores.specs.Layout.{kinds_at, of_kinds}
+use Rattle.mig_storage.specs.Changes.{has_id}
+use Rattle.mig_storage.specs.Layout.{kinds_at, of_kinds}
 use Rattle.mig_calls.proofs.OrderLemmas.{asked, asked-in-order, rows-rise}
 use Rattle.mig_calls.proofs.asked.rows_with.Goals as goal
 

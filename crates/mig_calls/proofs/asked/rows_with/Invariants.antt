@@ -4,8 +4,8 @@ use Rattle.mig_meaning.specs.declared.states.Placed.{Placed}
 use Rattle.mig_meaning.specs.declared.states.State.{State}
 use Rattle.mig_meaning.specs.Lists.{Each}
 use Rattle.mig_meaning.specs.Rows.{rows_of}
-use Rattle.mig_stores.specs.Layout.{kinds_at, of_kinds}
-use Rattle.mig_stores.specs.Meaning.{Keeps}
+use Rattle.mig_storage.specs.Layout.{kinds_at, of_kinds}
+use Rattle.mig_storage.specs.Meaning.{Keeps}
 use Rattle.mig_calls.proofs.OrderLemmas.{asked}
 use Rattle.mig_calls.proofs.asked.rows_with.Given as goal
 

@@ -13,7 +13,7 @@ use Rattle.mig_meaning.proofs.Bags.{value_eq-true}
 use Rattle.mig_meaning.proofs.Maps.{any-map}
 use Rattle.mig_calls.specs.Leading.{AreUnequal}
 use Rattle.mig_calls.specs.Order.{value_order}
-use Rattle.mig_calls.proofs.Lists.{any-dedup}
+use Rattle.mig_meaning.proofs.Lists.{any-dedup}
 use Rattle.mig_calls.proofs.ValueOrder.{sorted-unequal, value-ties, value_total}
 use Rattle.mig_calls.proofs.asked.values_at.Goals as goal
 

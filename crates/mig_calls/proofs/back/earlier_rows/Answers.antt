@@ -3,7 +3,7 @@ use Rattle.std.specs.Prelude.{filter}
 use Rattle.mig_meaning.specs.Lists.{Each}
 use Rattle.mig_meaning.specs.Rows.{rows_of}
 use Rattle.mig_meaning.specs.Values.{of_kind}
-use Rattle.mig_stores.specs.Layout.{kind_at}
+use Rattle.mig_storage.specs.Layout.{kind_at}
 use Rattle.mig_calls.specs.Leading.{has_one_of}
 use Rattle.mig_calls.proofs.EffectLemmas.{if-ok}
 use Rattle.mig_calls.proofs.LeadLemmas.{asked-kinds, met-is-one}

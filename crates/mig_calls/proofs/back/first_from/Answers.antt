@@ -5,11 +5,11 @@ use Rattle.mig_schema.specs.Joins.{is_among}
 use Rattle.mig_meaning.specs.declared.states.Placed.{Placed}
 use Rattle.mig_meaning.specs.Lists.{Each, In}
 use Rattle.mig_meaning.specs.Rows.{rows_of}
-use Rattle.mig_stores.specs.Layout.{kind_at, kinds_at, of_kinds}
+use Rattle.mig_storage.specs.Layout.{kind_at, kinds_at, of_kinds}
 use Rattle.mig_calls.specs.Fits.{AllJoinedFit, IsColumn}
 use Rattle.mig_calls.specs.Leading.{is_met_by}
 use Rattle.mig_calls.proofs.LeadLemmas.{among-earlier, among-none, earlier-covers, fits-earlier, fits-last, last-of, no_joined}
-use Rattle.mig_calls.proofs.Lists.{each-by, each-front, each-last}
+use Rattle.mig_meaning.proofs.Lists.{each-by, each-front, each-last}
 use Rattle.mig_calls.proofs.back.first_from.Goals as goal
 
 pub loop-left-init : goal.loop-left-init

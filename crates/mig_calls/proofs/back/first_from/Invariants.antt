@@ -6,8 +6,8 @@ use Rattle.mig_meaning.specs.declared.states.Placed.{Placed}
 use Rattle.mig_meaning.specs.declared.states.State.{State}
 use Rattle.mig_meaning.specs.Conditions.{Given}
 use Rattle.mig_meaning.specs.Lists.{Each, In}
-use Rattle.mig_stores.specs.Layout.{kinds_at, of_kinds}
-use Rattle.mig_stores.specs.Meaning.{Keeps}
+use Rattle.mig_storage.specs.Layout.{kinds_at, of_kinds}
+use Rattle.mig_storage.specs.Meaning.{Keeps}
 use Rattle.mig_calls.specs.Fits.{AllJoinedFit}
 use Rattle.mig_calls.specs.Leading.{IsCoverAt}
 use Rattle.mig_calls.proofs.back.first_from.Given as goal

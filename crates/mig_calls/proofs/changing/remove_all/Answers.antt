@@ -2,7 +2,7 @@ use Rattle.std.proofs.Common.{◌≡◌, ◌∷◌, ◌+◌, true, drop, get_or,
 use Rattle.std.proofs.lemmas.List.{drop_more}
 use Rattle.mig_meaning.specs.Lists.{AllDifferent, Each}
 use Rattle.mig_meaning.specs.Rows.{rows_of}
-use Rattle.mig_stores.specs.Changes.{has_id, removed}
+use Rattle.mig_storage.specs.Changes.{has_id, removed}
 use Rattle.mig_calls.specs.Making.{removed_all}
 use Rattle.mig_calls.proofs.ChangeLemmas.{there-removed, option_map-after}
 use Rattle.mig_calls.proofs.changing.remove_all.Goals as goal

@@ -2,7 +2,7 @@ use Rattle.std.proofs.Common.{◌≡◌, ◌∷◌, ◌+◌, true, drop, get_or,
 use Rattle.std.proofs.lemmas.List.{drop_more}
 use Rattle.mig_meaning.specs.Lists.{Each}
 use Rattle.mig_meaning.specs.Rows.{rows_of}
-use Rattle.mig_stores.specs.Changes.{has_id, written}
+use Rattle.mig_storage.specs.Changes.{has_id, written}
 use Rattle.mig_calls.specs.Making.{written_all}
 use Rattle.mig_calls.proofs.ChangeLemmas.{there-written, option_map-after}
 use Rattle.mig_calls.proofs.changing.write_all.Goals as goal

@@ -2,7 +2,7 @@ use Rattle.std.proofs.Common.{◌≡◌, ◌≤◌, Some, true, false, drop, opt
 use Rattle.mig_meaning.specs.declared.states.State.{State}
 use Rattle.mig_meaning.specs.Lists.{Each}
 use Rattle.mig_meaning.specs.Rows.{rows_of}
-use Rattle.mig_stores.specs.Changes.{has_id}
+use Rattle.mig_storage.specs.Changes.{has_id}
 use Rattle.mig_calls.specs.Making.{written_all}
 use Rattle.mig_calls.proofs.changing.write_all.Given as goal
 

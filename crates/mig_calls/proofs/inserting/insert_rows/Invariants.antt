@@ -3,7 +3,7 @@ use Rattle.mig_meaning.specs.declared.states.State.{State}
 use Rattle.mig_meaning.specs.Effect.{with_rows}
 use Rattle.mig_meaning.specs.Lists.{Each}
 use Rattle.mig_calls.specs.Fits.{RowFits}
-use Rattle.mig_calls.specs.Told.{given_told}
+use Rattle.mig_meaning.specs.Told.{given_told}
 use Rattle.mig_calls.proofs.inserting.insert_rows.Given as goal
 
 abbrev pub invariant-loop-t : goal.invariant-loop-t

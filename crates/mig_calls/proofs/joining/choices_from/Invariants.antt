@@ -2,7 +2,7 @@ use Rattle.std.proofs.Common.{◌≡◌, ◌≤◌, ◌∷◌, [], Some, false, 
 use Rattle.mig_meaning.specs.declared.states.Placed.{Placed}
 use Rattle.mig_meaning.specs.declared.states.State.{State}
 use Rattle.mig_meaning.specs.Lists.{Each}
-use Rattle.mig_stores.specs.Meaning.{Keeps}
+use Rattle.mig_storage.specs.Meaning.{Keeps}
 use Rattle.mig_calls.specs.Fits.{AllJoinedFit, ChoiceFits}
 use Rattle.mig_calls.specs.Joining as spec
 use Rattle.mig_calls.proofs.joining.choices_from.Given as goal

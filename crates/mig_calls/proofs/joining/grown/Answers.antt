@@ -7,7 +7,7 @@ use Rattle.mig_meaning.specs.Rows.{column_in, rows_of, value_at}
 use Rattle.mig_meaning.specs.Values.{of_kind, value_eq}
 use Rattle.mig_meaning.proofs.Steps.{flat_map-next}
 use Rattle.mig_meaning.proofs.Within.{each-append}
-use Rattle.mig_stores.specs.Layout.{kind_at, kinds_at, of_kinds}
+use Rattle.mig_storage.specs.Layout.{kind_at, kinds_at, of_kinds}
 use Rattle.mig_calls.specs.Fits.{ChoiceFits}
 use Rattle.mig_calls.specs.Joining.{partners, grown}
 use Rattle.mig_calls.proofs.ChoiceLemmas.{each-item, partner-kind, choices-longer}

@@ -1,7 +1,7 @@
 use Rattle.std.proofs.Common.{◌≡◌, ◌≤◌, ◌∷◌, ◌++◌, [], Some, false, take}
 use Rattle.mig_meaning.specs.declared.states.State.{State}
 use Rattle.mig_meaning.specs.Lists.{Each}
-use Rattle.mig_stores.specs.Meaning.{Keeps}
+use Rattle.mig_storage.specs.Meaning.{Keeps}
 use Rattle.mig_calls.specs.Fits.{ChoiceFits}
 use Rattle.mig_calls.specs.Joining as spec
 use Rattle.mig_calls.proofs.joining.grown.Given as goal

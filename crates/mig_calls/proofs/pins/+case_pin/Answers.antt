@@ -1,7 +1,7 @@
 use Rattle.std.proofs.Common.{rules, ℕ}
 use Rattle.mig_schema.specs.declared.values.Value.{Value}
 use Rattle.mig_calls.specs.Pins.{IsPin}
-use Rattle.mig_calls.specs.Told.{given_told}
+use Rattle.mig_meaning.specs.Told.{given_told}
 use Rattle.mig_calls.proofs.EffectLemmas.{if-ok}
 use Rattle.mig_calls.proofs.LeadLemmas.{first-of}
 use Rattle.mig_calls.proofs.PinLemmas.{if-none, no-case-pins}

@@ -1,4 +1,4 @@
-use Rattle.mig_calls.specs.Told.{given_told}
+use Rattle.mig_meaning.specs.Told.{given_told}
 use Rattle.mig_calls.proofs.EffectLemmas.{if-ok}
 use Rattle.mig_calls.proofs.PinLemmas.{if-none, no-cases-pin}
 use Rattle.mig_calls.proofs.pins.cases_pin.Goals as goal

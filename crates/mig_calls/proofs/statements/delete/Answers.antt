@@ -6,7 +6,7 @@ use Rattle.mig_meaning.specs.Effect.{without_rows}
 use Rattle.mig_meaning.specs.Lists.{Each}
 use Rattle.mig_meaning.proofs.Within.{each-weaker}
 use Rattle.mig_calls.specs.Making.{without_each}
-use Rattle.mig_calls.specs.Told.{given_told}
+use Rattle.mig_meaning.specs.Told.{given_told}
 use Rattle.mig_calls.proofs.EffectLemmas.{among-within, listed-are-there, without_each-is, on-ok, option_map-at}
 use Rattle.mig_calls.proofs.statements.delete.Goals as goal
 
@@ -18,7 +18,7 @@ remove_listed-requires-clause-listed g c =
 pub remove_listed-requires-clause-there : goal.remove_listed-requires-clause-there
 remove_listed-requires-clause-there g c = λ s e.
     let before = sym c.in_ok-met.ensures.keeps.told ∙ e in
-    rw (c.as_slice.ensures.value, c.as_slice-2.ensures.value, c.in_ok-tables.ensures, c.in_ok-met.ensures.rows s before)
+    rw (c.as_slice-2.ensures.value, c.as_slice-3.ensures.value, c.in_ok-tables.ensures, c.in_ok-met.ensures.rows s before)
     (listed-are-there (given_told c.args.given.now) s c.args.join.now c.args.cond.now.cases c.args.listed.now c.requires.listed.joined)
 
 pub returns-clause-makes : goal.returns-clause-makes
@@ -26,10 +26,10 @@ returns-clause-makes g c =
     let given = given_told c.args.given.now in
     let old = (g.S.Store.meaning c.args.store.now).told in
     let change = λ (s : State). without_rows (tables_of c.args.join.now) (met_rows (given_told c.args.given.now) s c.args.join.now c.args.cond.now.cases) c.args.listed.now s in
-    let same : option_map (without_each c.as_slice.result.now c.as_slice-2.result.now c.args.listed.now) old ≡ option_map change old =
-    option_map-at old _ change (λ s e. rw (c.as_slice.ensures.value, c.as_slice-2.ensures.value, c.in_ok-tables.ensures, c.in_ok-met.ensures.rows s e) (without_each-is (tables_of c.args.join.now) (met_rows given s c.args.join.now c.args.cond.now.cases) c.args.listed.now s c.requires.listed.once)) in
+    let same : option_map (without_each c.as_slice-2.result.now c.as_slice-3.result.now c.args.listed.now) old ≡ option_map change old =
+    option_map-at old _ change (λ s e. rw (c.as_slice-2.ensures.value, c.as_slice-3.ensures.value, c.in_ok-tables.ensures, c.in_ok-met.ensures.rows s e) (without_each-is (tables_of c.args.join.now) (met_rows given s c.args.join.now c.args.cond.now.cases) c.args.listed.now s c.requires.listed.once)) in
     record {
-      ok = on-ok c.remove_listed.result _ _ (λ h. h ∙ (ap (option_map (without_each c.as_slice.result.now c.as_slice-2.result.now c.args.listed.now)) c.in_ok-met.ensures.keeps.told ∙ same)) c.remove_listed.ensures.makes.ok;
+      ok = on-ok c.remove_listed.result _ _ (λ h. h ∙ (ap (option_map (without_each c.as_slice-2.result.now c.as_slice-3.result.now c.args.listed.now)) c.in_ok-met.ensures.keeps.told ∙ same)) c.remove_listed.ensures.makes.ok;
       begun = search rules;
       start = search rules;
       layout = search rules;

@@ -1,6 +1,6 @@
 use Rattle.std.proofs.Common.{subst}
 use Rattle.mig_calls.specs.Fits.{StmtFits}
-use Rattle.mig_calls.specs.Told.{given_told}
+use Rattle.mig_meaning.specs.Told.{given_told}
 use Rattle.mig_calls.proofs.statements.effect.Goals as goal
 
 pub set-requires-clause-cases : goal.set-requires-clause-cases

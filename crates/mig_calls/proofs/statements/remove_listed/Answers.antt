@@ -8,7 +8,7 @@ use Rattle.mig_meaning.specs.declared.states.Placed.{Placed}
 use Rattle.mig_meaning.specs.Effect.{takes_part}
 use Rattle.mig_meaning.specs.Lists.{Each}
 use Rattle.mig_meaning.specs.Rows.{rows_of}
-use Rattle.mig_stores.specs.Changes.{changed_at, has_id}
+use Rattle.mig_storage.specs.Changes.{changed_at, has_id}
 use Rattle.mig_calls.specs.Making.{AreThere, removed_all, without_each}
 use Rattle.mig_calls.proofs.ChangeLemmas.{option_map-after}
 use Rattle.mig_calls.proofs.EffectLemmas.{ids-there, removed-part, there-after, option_map-at}

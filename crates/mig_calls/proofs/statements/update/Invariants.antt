@@ -4,7 +4,7 @@ use Rattle.mig_meaning.specs.Effect.{after_all}
 use Rattle.mig_meaning.specs.Lists.{Each, total}
 use Rattle.mig_calls.specs.Fits.{StmtFits}
 use Rattle.mig_calls.specs.Rows.{rows_added}
-use Rattle.mig_calls.specs.Told.{given_told}
+use Rattle.mig_meaning.specs.Told.{given_told}
 use Rattle.mig_calls.proofs.statements.update.Given as goal
 
 abbrev pub invariant-loop-stmt : goal.invariant-loop-stmt

@@ -1,5 +1,5 @@
 use Rattle.std.proofs.Common.{◌≡◌, take}
-use Rattle.mig_schema.specs.Lists.{numbered}
+use Rattle.mig_base.specs.Lists.{numbered}
 use Rattle.mig_schema.specs.declared.tables.Column.{Column}
 use Rattle.mig_cli.proofs.columns.numbers_of.Given as goal
 

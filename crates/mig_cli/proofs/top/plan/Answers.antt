@@ -1,11 +1,12 @@
 use Rattle.std.proofs.Common.{inr, refl}
 use Rattle.mig_words.specs.declared.command.Command.TheVariants.{Migrate}
+use Rattle.mig_cli.specs.World.{inputs_of}
 use Rattle.mig_cli.proofs.Commands.{faulty-nothing}
 use Rattle.mig_cli.proofs.Worded.{left, migrated, none-named, refused, run, run-names, unbuilt}
 use Rattle.mig_cli.proofs.top.plan.Goals as goal
 
 pub returns-in-Err-clause-due : goal.returns-in-Err-clause-due
-returns-in-Err-clause-due g c = refused _ _ _ _ _ _ _ _ c.in-Err.fault c.in-Err.ensures.fault c.refused_plan.result refl refl c.refused_plan.ensures
+returns-in-Err-clause-due g c = refused _ _ _ c.in-Err.fault c.in-Err.ensures.fault c.refused_plan.result refl refl c.refused_plan.ensures
 
 pub returns-in-Err-clause-refused : goal.returns-in-Err-clause-refused
 returns-in-Err-clause-refused g c =
@@ -13,25 +14,25 @@ returns-in-Err-clause-refused g c =
 
 pub returns-in-Migrate-clause-due : goal.returns-in-Migrate-clause-due
 returns-in-Migrate-clause-due g c =
-    migrated _ _ _ _ _ _ _ _ c.in-Migrate.job (c.in-Migrate.options, rw c.in-Migrate.is at c.in-Ok.ensures.found) c.migrated_plan.result c.migrated_plan.ensures.asked refl c.migrated_plan.ensures.plan
+    migrated _ _ _ c.in-Migrate.job (c.in-Migrate.options, rw c.in-Migrate.is at c.in-Ok.ensures.found) c.migrated_plan.result c.migrated_plan.ensures.asked refl c.migrated_plan.ensures.plan
 
 pub returns-in-Migrate-clause-asked : goal.returns-in-Migrate-clause-asked
 returns-in-Migrate-clause-asked g c = inr (Migrate c.in-Migrate.job c.in-Migrate.options, 1, rw c.in-Migrate.is at c.in-Ok.ensures.found, c.migrated_plan.ensures.asked)
 
 pub returns-in-None-clause-due : goal.returns-in-None-clause-due
-returns-in-None-clause-due g c = run _ _ _ _ _ _ _ _ c.in-Run.job c.in-Run.calls (rw (c.in-Run.is, c.in-None.is) at c.in-Ok.ensures.found) c.run_plan.result c.run_plan.ensures.plan
+returns-in-None-clause-due g c = run _ _ _ c.in-Run.job c.in-Run.calls (rw (c.in-Run.is, c.in-None.is) at c.in-Ok.ensures.found) c.run_plan.result c.run_plan.ensures.plan
 
 pub returns-in-None-clause-left : goal.returns-in-None-clause-left
-returns-in-None-clause-left g c = left _ _ _ _ c.in-Run.job c.in-Run.calls (rw (c.in-Run.is, c.in-None.is) at c.in-Ok.ensures.found) c.run_plan.ensures.left
+returns-in-None-clause-left g c = left _ (inputs_of g.F.Files g.S.Store c.args.files.now c.args.store.now) (inputs_of g.F.Files g.S.Store c.run_plan.new.files c.run_plan.new.store) c.in-Run.job c.in-Run.calls (rw (c.in-Run.is, c.in-None.is) at c.in-Ok.ensures.found) c.run_plan.ensures.left
 
 pub returns-in-None-clause-asked : goal.returns-in-None-clause-asked
 returns-in-None-clause-asked g c = run-names _ _ _ c.in-Run.job c.in-Run.calls (rw (c.in-Run.is, c.in-None.is) at c.in-Ok.ensures.found) c.run_plan.ensures.asked
 
 pub returns-in-Run-clause-due : goal.returns-in-Run-clause-due
-returns-in-Run-clause-due g c = unbuilt _ _ _ _ _ _ _ _ c.in-Ok.command c.in-Ok.ensures.found (rw (c.in-Run.is, c.in-Some.is) refl) c.unbuilt_plan.result refl refl c.unbuilt_plan.ensures
+returns-in-Run-clause-due g c = unbuilt _ _ _ c.in-Ok.command c.in-Ok.ensures.found (rw (c.in-Run.is, c.in-Some.is) refl) c.unbuilt_plan.result refl refl c.unbuilt_plan.ensures
 
 pub returns-in-Check-clause-due : goal.returns-in-Check-clause-due
-returns-in-Check-clause-due g c = unbuilt _ _ _ _ _ _ _ _ c.in-Ok.command c.in-Ok.ensures.found (rw c.in-Check.is refl) c.unbuilt_plan-in-Check.result refl refl c.unbuilt_plan-in-Check.ensures
+returns-in-Check-clause-due g c = unbuilt _ _ _ c.in-Ok.command c.in-Ok.ensures.found (rw c.in-Check.is refl) c.unbuilt_plan-in-Check.result refl refl c.unbuilt_plan-in-Check.ensures
 
 pub returns-clause-due : goal.returns-clause-due
-returns-clause-due g c = unbuilt _ _ _ _ _ _ _ _ c.in-Ok.command c.in-Ok.ensures.found (rw c.in-Trial.is refl) c.unbuilt_plan-in-Trial.result refl refl c.unbuilt_plan-in-Trial.ensures
+returns-clause-due g c = unbuilt _ _ _ c.in-Ok.command c.in-Ok.ensures.found (rw c.in-Trial.is refl) c.unbuilt_plan-in-Trial.result refl refl c.unbuilt_plan-in-Trial.ensures

@@ -1,7 +1,7 @@
 use Rattle.std.proofs.Common.{◌≡◌, take, not, cond}
 use Rattle.std.specs.Prelude.{◌==◌, filter}
 use Rattle.std.specs.List.{list_any}
-use Rattle.mig_schema.specs.Lists.{numbered}
+use Rattle.mig_base.specs.Lists.{numbered}
 use Rattle.mig_meaning.specs.Effect.{takes_part}
 use Rattle.mig_meaning.proofs.deleting.without_rows.Given as goal
 

@@ -1,6 +1,6 @@
 use Rattle.std.proofs.Common.{◌≡◌, take}
 use Rattle.mig_schema.specs.declared.tables.Column.{Column}
-use Rattle.mig_schema.specs.Lists.{numbered}
+use Rattle.mig_base.specs.Lists.{numbered}
 use Rattle.mig_schema.specs.Columns.{columns_of}
 use Rattle.mig_meaning.specs.Effect.{class_value}
 use Rattle.mig_meaning.specs.Told.{given_told}

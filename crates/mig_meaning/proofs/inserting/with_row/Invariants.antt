@@ -1,6 +1,6 @@
 use Rattle.std.proofs.Common.{◌≡◌, ◌∷◌, ◌++◌, [], cond, take}
 use Rattle.std.specs.Prelude.{◌==◌}
-use Rattle.mig_schema.specs.Lists.{numbered}
+use Rattle.mig_base.specs.Lists.{numbered}
 use Rattle.mig_meaning.proofs.inserting.with_row.Given as goal
 
 abbrev pub invariant-loop-n : goal.invariant-loop-n

@@ -1,6 +1,6 @@
 use Rattle.std.proofs.Common.{◌≡◌, take, cond, map}
 use Rattle.std.specs.Prelude.{◌==◌}
-use Rattle.mig_schema.specs.Lists.{numbered}
+use Rattle.mig_base.specs.Lists.{numbered}
 use Rattle.mig_meaning.specs.Effect.{takes_part, with_value}
 use Rattle.mig_meaning.proofs.setting.with_set.Given as goal
 

@@ -1,7 +1,7 @@
 use Rattle.std.proofs.Common.{◌≡◌, take, cond}
 use Rattle.std.specs.Prelude.{◌==◌}
 use Rattle.mig_schema.specs.declared.values.Value.{Value}
-use Rattle.mig_schema.specs.Lists.{numbered}
+use Rattle.mig_base.specs.Lists.{numbered}
 use Rattle.mig_meaning.proofs.setting.with_value.Given as goal
 
 abbrev pub invariant-loop-n : goal.invariant-loop-n

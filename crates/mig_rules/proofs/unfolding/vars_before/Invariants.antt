@@ -1,5 +1,5 @@
 use Rattle.std.proofs.Common.{◌≡◌, ◌++◌, ◌==◌, cond, drop}
-use Rattle.mig_schema.specs.Lists.{numbered}
+use Rattle.mig_base.specs.Lists.{numbered}
 use Rattle.mig_algebra.specs.declared.atoms.Var.{Var}
 use Rattle.mig_rules.specs.Unfolding.{var_before}
 use Rattle.mig_rules.proofs.unfolding.vars_before.Given as goal

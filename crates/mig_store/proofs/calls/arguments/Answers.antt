@@ -11,7 +11,7 @@ returns-in_default c =
     let p = c.param-item.result in
     let text = c.field.ensures ∙ ap (λ n. get_or r (n + 1) []) inv.place in
     let none = sym c.in_default.is ∙ c.in_ok-value.ensures ∙ ap (value_spelled p.kind) text in
-    let number = c.in_ok-field.ensures ∙ ap (λ n. n + 1) inv.place in
+    let number = c.in_ok-field.ensures.ok ∙ ap (λ n. n + 1) inv.place in
     inr (stops c.args.at c.args.params.now r c.loop-param.param-index c.in_ok-field.field p c.loop-param.values _ number c.requires c.loop-param-test.true c.param-item.is none inv.rest)
 
 pub loop-param-preserved : goal.loop-param-preserved

@@ -2,8 +2,8 @@ use Rattle.std.proofs.Common.{List, [], ◌∙◌, ap, refl, sym, true}
 use Rattle.std.specs.List.{flat_map}
 use Rattle.std.proofs.lemmas.List.Folds.{flat_map-map}
 use Rattle.csv.specs.Writing.{with_flexible}
-use Rattle.mig_runs.specs.declared.answers.Answered.{Answered}
-use Rattle.mig_runs.specs.Told.{answered_told}
+use Rattle.mig_store.specs.declared.answers.Answered.{Answered}
+use Rattle.mig_store.specs.Told.{answered_told}
 use Rattle.mig_store.specs.Writing.{answer_text}
 use Rattle.mig_store.proofs.Written.{kept}
 use Rattle.mig_store.proofs.writing.answers_text.Goals as goal

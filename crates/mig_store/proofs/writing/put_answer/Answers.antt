@@ -5,7 +5,7 @@ use Rattle.csv.specs.Records.{fields_of}
 use Rattle.mig_meaning.specs.declared.states.Row.{Row}
 use Rattle.mig_meaning.specs.Told.{rows_told}
 use Rattle.mig_algebra.specs.Sorted.{sorted}
-use Rattle.mig_runs.specs.Told.{answered_told}
+use Rattle.mig_store.specs.Told.{answered_told}
 use Rattle.mig_store.specs.Order.{row_order}
 use Rattle.mig_store.specs.Reading.{Record}
 use Rattle.mig_store.specs.Writing.{heading, record_text, row_record}

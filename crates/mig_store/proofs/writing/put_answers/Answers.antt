@@ -2,8 +2,8 @@ use Rattle.std.proofs.Common.{List, ◌++◌, ap, sym}
 use Rattle.std.specs.List.{flat_map}
 use Rattle.std.proofs.lemmas.List.{append-nil, take_all}
 use Rattle.mig_calls.proofs.ChoiceLemmas.{each-item}
-use Rattle.mig_runs.specs.declared.answers.Answered.{Answered}
-use Rattle.mig_runs.specs.Told.{answered_told}
+use Rattle.mig_store.specs.declared.answers.Answered.{Answered}
+use Rattle.mig_store.specs.Told.{answered_told}
 use Rattle.mig_store.specs.Writing.{answer_text}
 use Rattle.mig_store.proofs.Written.{answer-more, in_words}
 use Rattle.mig_store.proofs.writing.put_answers.Goals as goal

@@ -1,6 +1,6 @@
 use Rattle.std.proofs.Common.{ℕ, List, ◌++◌, take}
 use Rattle.std.specs.List.{flat_map}
-use Rattle.mig_runs.specs.Told.{answered_told}
+use Rattle.mig_store.specs.Told.{answered_told}
 use Rattle.mig_store.specs.Writing.{answer_text}
 use Rattle.mig_store.specs.Written.{HasWritten}
 use Rattle.mig_store.proofs.writing.put_answers.Given as goal

@@ -1,5 +1,5 @@
 use Rattle.std.proofs.Common.{◌≡◌, ℕ, ◌<◌, false}
-use Rattle.mig_schema.specs.Lists.{again}
+use Rattle.mig_base.specs.Lists.{again}
 use Rattle.mig_typing.proofs.again.first_again.Given as goal
 
 abbrev pub invariant-loop-k : goal.invariant-loop-k

@@ -5,7 +5,7 @@ use Rattle.std.specs.Option.{option_map_or}
 use Rattle.std.specs.Str.{bytes_eq}
 use Rattle.mig_schema.specs.declared.faults.ProgramRule.{ProgramRule}
 use Rattle.mig_schema.specs.declared.programs.Function.{Function}
-use Rattle.mig_schema.specs.Lists.{again}
+use Rattle.mig_base.specs.Lists.{again}
 use Rattle.mig_schema.specs.Typed.{function_twice}
 use Rattle.mig_typing.specs.First.{IsFirst}
 use Rattle.mig_typing.specs.Broken.{program_rank, function_broken}

@@ -3,7 +3,7 @@ use Rattle.std.proofs.Common.{◌≡◌, ◌∙◌, List, length, ap}
 use Rattle.std.specs.List.{list_any, range_with_len}
 use Rattle.std.specs.Str.{bytes_eq}
 use Rattle.mig_schema.specs.declared.programs.Param.{Param}
-use Rattle.mig_schema.specs.Lists.{again}
+use Rattle.mig_base.specs.Lists.{again}
 use Rattle.mig_typing.proofs.Firsts.{any_below, again_past}
 use Rattle.mig_typing.proofs.programs.parameters_meet.Goals as goal
 

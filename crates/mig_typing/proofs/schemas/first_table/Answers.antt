@@ -2,7 +2,7 @@
 use Rattle.std.proofs.Common.{List, [], ◌∷◌, subst}
 use Rattle.std.specs.Str.{bytes_eq}
 use Rattle.mig_schema.specs.declared.tables.Table.{Table}
-use Rattle.mig_schema.specs.Lists.{again}
+use Rattle.mig_base.specs.Lists.{again}
 use Rattle.mig_typing.specs.First.{IsFirst}
 use Rattle.mig_typing.proofs.schemas.first_table.Goals as goal
 

@@ -15,7 +15,7 @@ use denote.Shadow.{pure_i}
 use denote.Signature.{plain, types_at}
 use denote.Triple.Entry.{alive}
 use denote.Triple.Walked.{says, stay_none_ref, Stays, walk_of, ends_at, Goes-none_ref}
-use Rattle.mig_schema.specs.contracts.seq.Seq as seq
+use Rattle.mig_base.specs.contracts.seq.Seq as seq
 use Rattle.mig_io.specs.contracts.asked.Asked as made
 use Rattle.mig_io.specs.contracts.asked.Asked.with as f
 use Rattle.mig_io.proofs.asked.Asked.with.Statement.{statement}

@@ -1,5 +1,0 @@
-use Rattle.std.proofs.Common.{length}
-use Rattle.mig_calls.proofs.inserting.+class_value.Given as goal
-
-abbrev pub decreases-class_value : goal.decreases-class_value
-decreases-class_value l = length l.values.now

@@ -1,5 +1,0 @@
-use Rattle.std.proofs.Common.{length}
-use Rattle.mig_calls.proofs.inserting.+leader.Given as goal
-
-abbrev pub decreases-leader : goal.decreases-leader
-decreases-leader l = length l.joined.now

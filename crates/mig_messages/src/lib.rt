@@ -1,0 +1,13 @@
+//! Every line that the desk prints, and every status that it ends with.
+#![tactic(auto)]
+
+mod call_lines;
+mod lines;
+mod names;
+mod status;
+
+pub use call_lines::{calls_line, store_failed};
+pub use lines::{
+    cannot_read, fault_line, found, no_memory, not_built, too_long, unbuilt_words, words_line,
+};
+pub use status::{Status, calls_status, fault_status};

@@ -1,3 +1,0 @@
-pub mod Callable
-pub mod Ended
-pub mod Played

@@ -1,0 +1,121 @@
+// The tables of a store in memory, and the next id.
+ghost use Rattle.std.specs.Prelude.{◌≡◌, ◌^◌, ◌<◌, [], length, slice_index_or, IfOk, OnOk, OnErr};
+
+use crate::slots::{Slot, Slots};
+use crate::undo::Undo;
+use mig_meaning::Row;
+use mig_schema::Schema;
+use std::alloc::{AllocError, Global};
+use std::marker::Model;
+
+/// The slots of each table, and the next id.
+#[derive(Debug, Drop)]
+pub(crate) struct Shelf {
+    tables: Vec<Slots>,
+    next: u64,
+}
+
+impl Model for Shelf {
+    ghost use Rattle.mig_storage.specs.Slots.{Shelf};
+
+    ghost Value = { Shelf };
+
+    ghost view = { λ s. record { tables = s.tables.items; next = s.next } };
+}
+
+impl Shelf {
+    ghost use Rattle.mig_storage.specs.Order.{IsOrdered};
+    ghost use Rattle.mig_storage.specs.Slots.{state_on, no_slot, no_tables, empty_shelf, slots_at, with_new, with_slots, with_row_at, undo};
+
+    /// No tables. It takes no memory.
+    pub(crate) fn new(alloc: Global) -> Shelf
+        ensures { result ≡ no_tables }
+    {
+        Shelf {
+            tables: Vec::new(alloc),
+            next: 0,
+        }
+    }
+
+    /// The tables of the schema, all empty.
+    pub(crate) fn of_tables(alloc: Global, schema: &Schema) -> Result<Shelf, AllocError>
+        ensures { IfOk result (λ s. s ≡ empty_shelf schema.now) }
+    {
+        let mut tables = Vec::new(alloc);
+        for _table in schema.tables.as_slice() {
+            tables.push(Slots::new(alloc))?;
+        }
+        Ok(Shelf { tables, next: 0 })
+    }
+
+    /// The next id.
+    pub(crate) fn next(&self) -> u64
+        ensures { result ≡ self.now.next }
+    {
+        self.next
+    }
+
+    /// The slots of a table.
+    pub(crate) fn slots(&self, table: u32) -> &[Slot]
+        requires { table < length self.now.tables }
+        ensures { result.now ≡ slots_at self.now table }
+    {
+        self.tables[table as usize].as_slice()
+    }
+
+    /// A row with the next id, behind the others of a table. On want of memory nothing changes.
+    pub(crate) fn add(&mut self, table: u32, row: Row) -> Result<(), AllocError>
+        requires table { table < length self.old.tables }
+        requires room { self.old.next < 2 ^ 63 }
+        ensures ok { OnOk result (self.new ≡ with_new self.old table row) }
+        ensures err { OnErr result (self.new ≡ self.old) }
+    {
+        let slot = Slot {
+            id: self.next,
+            row: Some(row),
+        };
+        self.tables[table as usize].push(slot)?;
+        self.next += 1;
+        Ok(())
+    }
+
+    /// Puts another row, or none, in a slot of a table, and answers what stood there. Nothing changes where there is no
+    /// such slot.
+    pub(crate) fn exchange(&mut self, table: u32, place: usize, row: Option<Row>) -> Option<Row>
+        ensures row { result ≡ (slice_index_or (slots_at self.old table) place no_slot).row }
+        ensures shelf { self.new ≡ with_slots self.old table (with_row_at place row (slots_at self.old table)) }
+    {
+        if (table as usize) < self.tables.len() {
+            self.tables[table as usize].exchange(place, row)
+        } else {
+            None
+        }
+    }
+
+    /// Takes a change back. It takes no memory.
+    pub(crate) fn take_back(&mut self, entry: Undo)
+        ensures { self.new ≡ undo entry self.old }
+    {
+        match entry {
+            Undo::Added { table } => {
+                if (table as usize) < self.tables.len() {
+                    self.tables[table as usize].cut_last();
+                }
+                self.next = self.next.saturating_sub(1);
+            }
+            Undo::Changed { table, place, row } => {
+                let _ = self.exchange(table, place, Some(row));
+            }
+        }
+    }
+
+    /// Drops empty slots, where a table may have more of them than full ones. It takes no memory.
+    pub(crate) fn close_up(&mut self)
+        ensures state { state_on self.new ≡ state_on self.old }
+        ensures order { IsOrdered self.old → IsOrdered self.new }
+    {
+        for t in 0..self.tables.len() {
+            self.tables[t].close_up();
+        }
+    }
+}

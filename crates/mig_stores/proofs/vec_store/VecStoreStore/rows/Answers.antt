@@ -1,6 +1,0 @@
-use Rattle.std.proofs.Common.{}
-use Rattle.mig_stores.proofs.FitsLemmas.{fits-kinds}
-use Rattle.mig_stores.proofs.vec_store.VecStoreStore.rows.Goals as goal
-
-pub returns-clause-kinds : goal.returns-clause-kinds
-returns-clause-kinds c = rw c.in_ok-rows.ensures (fits-kinds c.args.self.now.layout c.args.self.now.journal.current c.args.table c.args.self.now.fits)

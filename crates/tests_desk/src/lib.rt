@@ -1,0 +1,21 @@
+//! Tests of the desk: files and sinks, the words of a command line, and what each call writes.
+#![tactic(auto)]
+
+#[cfg(test)]
+mod answered;
+#[cfg(test)]
+mod calling;
+#[cfg(test)]
+mod files;
+#[cfg(test)]
+mod refused;
+#[cfg(test)]
+mod runs;
+#[cfg(test)]
+mod sinks;
+#[cfg(test)]
+mod sizes;
+#[cfg(test)]
+mod streams;
+#[cfg(test)]
+mod words;

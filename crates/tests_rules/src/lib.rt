@@ -1,0 +1,23 @@
+//! Tests of expressions, of the rules that rewrite them, and of certificates and their checker.
+#![tactic(auto)]
+
+#[cfg(test)]
+mod certificates;
+#[cfg(test)]
+mod classes;
+#[cfg(test)]
+mod copies;
+#[cfg(test)]
+mod expressions;
+#[cfg(test)]
+mod jobs;
+#[cfg(test)]
+mod printed;
+#[cfg(test)]
+mod replaced;
+#[cfg(test)]
+mod steps;
+#[cfg(test)]
+mod tidied;
+#[cfg(test)]
+mod verdicts;
