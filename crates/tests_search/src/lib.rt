@@ -2,6 +2,12 @@
 #![tactic(auto)]
 
 #[cfg(test)]
+mod choosing;
+#[cfg(test)]
+mod jobs;
+#[cfg(test)]
 mod large;
+#[cfg(test)]
+mod ranking;
 #[cfg(test)]
 mod trees;

@@ -1,0 +1,11 @@
+pub mod Clauses
+pub mod Couples
+pub mod Distinct
+pub mod Forbidding
+pub mod Ordering
+pub mod Picking
+pub mod Places
+pub mod Starts
+pub mod Turns
+pub mod Uses
+pub mod Vectors
