@@ -1,5 +1,7 @@
+pub mod Asking
 pub mod Classed
 pub mod Contradicted
+pub mod Equalities
 pub mod Forested
 pub mod FreshKeys
 pub mod Giving

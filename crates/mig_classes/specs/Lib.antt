@@ -1,4 +1,5 @@
 pub mod Classes
+pub mod Deciding
 pub mod Forests
 pub mod Given
 pub mod Keys

@@ -33,7 +33,7 @@ fn push_sides(alloc: Global, atoms: &mut Vec<Atom>, lit: &Lit) -> Result<(), All
 }
 
 /// Both sides of each equality, in their order.
-fn equated(alloc: Global, lits: &[Lit]) -> Result<Vec<Atom>, AllocError>
+pub(crate) fn equated(alloc: Global, lits: &[Lit]) -> Result<Vec<Atom>, AllocError>
     ensures { IfOk result (λ v. v.items ≡ spec.equated lits.now) }
 {
     let mut atoms = Vec::new(alloc);
@@ -44,7 +44,7 @@ fn equated(alloc: Global, lits: &[Lit]) -> Result<Vec<Atom>, AllocError>
 }
 
 /// The atoms in order, each once.
-fn in_order(atoms: Vec<Atom>) -> Vec<Atom>
+pub(crate) fn in_order(atoms: Vec<Atom>) -> Vec<Atom>
     ensures { result.items ≡ sorting.sorted_once order.atom_order atoms.items }
 {
     let mut atoms = atoms;
@@ -90,7 +90,7 @@ fn unite_sides(parents: &mut Vec<usize>, atoms: &[Atom], lit: &Lit)
 }
 
 /// The atoms that the equalities name, each of which leads to the least of its class.
-fn united(alloc: Global, atoms: &[Atom], lits: &[Lit]) -> Result<Vec<usize>, AllocError>
+pub(crate) fn united(alloc: Global, atoms: &[Atom], lits: &[Lit]) -> Result<Vec<usize>, AllocError>
     requires { atoms.now ≡ spec.named lits.now }
     ensures count { IfOk result (λ v. length v.items ≡ length atoms.now) }
     ensures forest { IfOk result (λ v. IsForest v.items) }

@@ -1,5 +1,5 @@
 // What classes and given comparisons are. Each law is the contract of a function that does nothing.
-ghost use Rattle.mig_classes.specs.Laws.{ClassLaw, ComplementLaw, ContradictionLaw, GivenLaw, ValueLaw};
+ghost use Rattle.mig_classes.specs.Laws.{ClassLaw, ComplementLaw, ContradictionLaw, EqualLaw, GivenLaw, ValueLaw};
 
 /// Two atoms are in one class exactly where every equivalence that holds of both sides of each equality holds of them. The least atom of a class is in it, and no atom of the class is before it.
 pub fn classes_are_the_least_equivalence()
@@ -24,4 +24,9 @@ pub fn contradictory_lists_are_never_true()
 /// The complement of a comparison or of a body is true exactly where the literal is not.
 pub fn complements_are_true_elsewhere()
     ensures { ComplementLaw }
+{}
+
+/// The sides of an equality that a list gives have one value wherever the list is true.
+pub fn given_equalities_hold()
+    ensures { EqualLaw }
 {}

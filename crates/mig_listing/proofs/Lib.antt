@@ -1,5 +1,7 @@
 pub mod Choices
+pub mod ChosenAll
 pub mod Fronts
+pub mod Found
 pub mod Listings
 pub mod Members
 pub mod Orders

@@ -1,7 +1,7 @@
 -- Orders made of orders are orders, and of two different ones one stands first where the parts say so.
 use Rattle.std.proofs.Common.{◌≡◌, ℕ, ◌⊎◌, Bool, true, false, List, [], ◌∷◌, ◌++◌, length, refl, ap, sym, ◌∙◌, subst, inl, inr, arith}
 use Rattle.std.proofs.lemmas.Bool.{false≢true}
-use Rattle.mig_listing.specs.Orders.{IsOrder, IsTotalOn, Less, TrueFirst, Lex, FirstBy}
+use Rattle.mig_listing.specs.Orders.{IsOrder, IsTotalOn, Less, TrueFirst, Lex, FrontFirst, Before, FirstBy}
 
 -- numbers by size
 pub less_order : IsOrder Less
@@ -89,3 +89,41 @@ Lex-cases {A} {R} t (x ∷ xs) (y ∷ ys) e = elim (t x y) [
 -- of two different lists of one length one stands first
 pub Lex-total : {A : Type 0} (n : ℕ) {P : List A → Type 0} {R : A → A → Type 0} → ((xs : List A) → P xs → length xs ≡ n) → ((a b : A) → (a ≡ b) ⊎ (R a b ⊎ R b a)) → IsTotalOn P (Lex R)
 Lex-total n sized t = λ x y p q. Lex-cases t x y (sized x p ∙ sym (sized y q))
+
+-- ---- lists, a front first
+
+pub FrontFirst-never : {A : Type 0} {R : A → A → Type 0} → IsOrder R → (xs : List A) → FrontFirst R xs xs → ⊥
+FrontFirst-never o [] h = h
+FrontFirst-never o (x ∷ xs) h = elim h [ inl r ↦ o.never x r | inr t ↦ FrontFirst-never o xs t.1 ]
+
+pub FrontFirst-on : {A : Type 0} {R : A → A → Type 0} → IsOrder R → (xs ys zs : List A) → FrontFirst R xs ys → FrontFirst R ys zs → FrontFirst R xs zs
+FrontFirst-on o xs [] zs h k = absurd h
+FrontFirst-on o xs (y ∷ ys) [] h k = absurd k
+FrontFirst-on o [] (y ∷ ys) (z ∷ zs) h k = tt
+FrontFirst-on {R = R} o (x ∷ xs) (y ∷ ys) (z ∷ zs) h k = elim h [
+  | inl r ↦ elim k [ inl s ↦ inl (o.on x y z r s) | inr t ↦ inl (subst (R x) t.0 r) ]
+  | inr s ↦ elim k [ inl r ↦ inl (subst (λ a. R a z) (sym s.0) r) | inr t ↦ inr (s.0 ∙ t.0, FrontFirst-on o xs ys zs s.1 t.1) ]
+]
+
+pub FrontFirst-order : {A : Type 0} {R : A → A → Type 0} → IsOrder R → IsOrder (FrontFirst R)
+FrontFirst-order o = record { never = FrontFirst-never o; on = FrontFirst-on o }
+
+-- of two different lists one stands before the other
+pub FrontFirst-total : {A : Type 0} {R : A → A → Type 0} → ((a b : A) → (a ≡ b) ⊎ (R a b ⊎ R b a)) → (xs ys : List A) → (xs ≡ ys) ⊎ (FrontFirst R xs ys ⊎ FrontFirst R ys xs)
+FrontFirst-total t [] [] = inl refl
+FrontFirst-total t [] (y ∷ ys) = inr (inl tt)
+FrontFirst-total t (x ∷ xs) [] = inr (inr tt)
+FrontFirst-total {A} {R} t (x ∷ xs) (y ∷ ys) = elim (t x y) [
+  | inl same ↦ elim (FrontFirst-total t xs ys) [
+    | inl rest ↦ inl (ap (λ h. h ∷ xs) same ∙ ap (λ l. y ∷ l) rest)
+    | inr order ↦ elim order [ inl r ↦ inr (inl (inr (same, r))) | inr r ↦ inr (inr (inr (sym same, r))) ]
+  ]
+  | inr order ↦ elim order [ inl r ↦ inr (inl (inl r)) | inr r ↦ inr (inr (inl r)) ]
+]
+
+pub before_order : IsOrder Before
+before_order = FrontFirst-order less_order
+
+-- of two numbers that differ one is the smaller
+pub less_total : (a b : ℕ) → (a ≡ b) ⊎ (Less a b ⊎ Less b a)
+less_total a b = grind arith

@@ -1,4 +1,6 @@
 pub mod Choices
+pub mod Chosen
+pub mod Finding
 pub mod Fronts
 pub mod Listing
 pub mod Orders

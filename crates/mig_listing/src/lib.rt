@@ -1,10 +1,12 @@
 //! Lists that are said by what they hold and by their order.
 #![tactic(auto)]
 
-ghost use Rattle.std.specs.Prelude.{◌≡◌, ◌++◌, ◌∷◌, [], ℕ, Bool, List};
+ghost use Rattle.std.specs.Prelude.{◌≡◌, ◌⊎◌, ◌++◌, ◌∷◌, [], ℕ, Bool, List, Option};
 ghost use Rattle.mig_listing.specs.Listing.{IsListOf, Rises};
 ghost use Rattle.mig_listing.specs.Fronts.{IsFront, IsNext};
-ghost use Rattle.mig_listing.specs.Orders.{IsOrder, Less, Lex};
+ghost use Rattle.mig_listing.specs.Orders.{Before, IsOrder, Less, Lex};
+ghost use Rattle.mig_listing.specs.Chosen.{ChosenLaw};
+ghost use Rattle.mig_listing.specs.Finding.{Finds, Offers, first_some};
 ghost use Rattle.mig_listing.specs.Choices.{IsChoice, choices};
 ghost use Rattle.mig_listing.specs.Tests.{Passes, Precedes};
 
@@ -31,4 +33,23 @@ pub fn next_of_listing<T>()
 pub fn listing_of_choices()
     ensures all { (n : ℕ) (pool : List ℕ) → Rises Less pool
         → IsListOf (IsChoice n pool) (Lex Less) (choices n pool) }
+{}
+
+/// Lists of numbers, a front before what it begins, stand in an order, and of two different ones one stands first.
+pub fn lists_stand_in_order()
+    ensures order { IsOrder Before }
+    ensures total { (xs ys : List ℕ) → (xs ≡ ys) ⊎ (Before xs ys ⊎ Before ys xs) }
+{}
+
+/// What the first of a rising list gives, in which each key stands that gives something, is what the least key gives.
+pub fn first_of_offered<K, V>()
+    ensures least { (before : K → K → Bool) (gives : K → Option V) (keys : List K)
+        → IsOrder (Precedes before)
+        → Offers (Precedes before) gives keys
+        → Finds (Precedes before) gives (first_some gives keys) }
+{}
+
+/// Lists of numbers chosen one after the other, each of those that may follow, are all that may be, in order.
+pub fn chosen_lists_are_all()
+    ensures { ChosenLaw }
 {}

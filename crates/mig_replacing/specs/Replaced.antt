@@ -9,10 +9,10 @@ use Rattle.mig_algebra.specs.declared.literals.Inner.{Inner}
 use Rattle.mig_algebra.specs.declared.literals.Lit.{Lit, Cmp, Other, Any', items-the_row-Lit}
 use Rattle.mig_algebra.specs.declared.literals.Lit.TheVariants.{Any}
 use Rattle.mig_algebra.specs.declared.terms.Term.{Term}
-use Rattle.mig_algebra.specs.Meaning.{Setting, Env, comes_out, lits_true, terms_bag}
+use Rattle.mig_algebra.specs.Meaning.{Setting, Env, choices, comes_out, lits_true, terms_bag}
 use Rattle.mig_algebra.specs.Proper.{Sides, lit_fits, lit_oriented, IsProperTerm}
 use Rattle.mig_replacing.specs.Places.{Place, place_at}
-use Rattle.mig_replacing.specs.Reaching.{StandsFor, AtMostOne, MetAs, is_met}
+use Rattle.mig_replacing.specs.Reaching.{Reaches, StandsFor, AtMostOne, MetAs, is_met}
 
 -- each body held, and none of those before it
 abbrev pub first_met : (before bodies : List Inner) → List (List Lit)
@@ -72,6 +72,16 @@ pub record ReplacementLaw : Type 0 where
       → SameAmong s (t ∷ []) (replaced t path alternatives)
   pub body : (s : Setting) (t : Term) (path : List ℕ) (p : Place) (held : Bool) (body : Inner) (bodies : List Inner) → place_at t path ≡ Some p
       → p.lit ≡ Any held body → MetAs s p body bodies
+      → SameAmong s (t ∷ []) (replaced t path (spread held bodies))
+
+-- how many choices of rows for a body's variables meet its literals, at a choice for those in scope around it
+abbrev pub met_count : Setting → Env → Inner → ℕ
+met_count s e b = total (λ c. bit (lits_true s (e ++ c) b.lits)) (choices s b.vars)
+
+-- Where, at each choice that reaches the literal of a body, the bodies of a list are met together by as many choices as the body, the list may take its place.
+pub record CountLaw : Type 0 where
+  pub by : (s : Setting) (t : Term) (path : List ℕ) (p : Place) (held : Bool) (body : Inner) (bodies : List Inner) → place_at t path ≡ Some p
+      → p.lit ≡ Any held body → ((e : Env) → Reaches s p e → total (met_count s e) bodies ≡ met_count s e body)
       → SameAmong s (t ∷ []) (replaced t path (spread held bodies))
 
 -- literals that fit among these variables, and are oriented

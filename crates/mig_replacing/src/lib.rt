@@ -5,7 +5,7 @@ mod laws;
 mod spreading;
 
 pub use laws::{
-    contradictory_bodies_go, given_literals_go, proper_terms_are_sound,
+    bodies_are_met_by_counts, contradictory_bodies_go, given_literals_go, proper_terms_are_sound,
     replacing_keeps_terms_proper, replacing_keeps_the_bag,
 };
 pub use spreading::{put_at, spread};

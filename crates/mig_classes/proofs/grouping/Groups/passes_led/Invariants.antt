@@ -1,0 +1,9 @@
+use Rattle.std.proofs.Common.{◌≡◌, drop}
+use Rattle.std.specs.List.{list_any}
+use Rattle.mig_classes.specs.Classes.{named}
+use Rattle.mig_classes.specs.Deciding.{clashes, is_led_by}
+use Rattle.mig_classes.specs.Given.{class_of}
+use Rattle.mig_classes.proofs.grouping.Groups.passes_led.Given as goal
+
+abbrev pub invariant-loop-at : goal.invariant-loop-at
+invariant-loop-at g l = list_any (is_led_by l.self.lits.now l.least (g.T.PairTest.test l.test l.left)) (named l.self.lits.now) ≡ list_any (is_led_by l.self.lits.now l.least (g.T.PairTest.test l.test l.left)) (drop l.at (named l.self.lits.now))
