@@ -10,9 +10,9 @@ use Rattle.mig_schema.specs.declared.tables.Schema.{Schema}
 use Rattle.mig_meaning.specs.declared.relating.Invariant.{Invariant}
 use Rattle.mig_meaning.specs.declared.relating.Invariant.TheVariants.{Views, Unique, Apart, Within}
 use Rattle.mig_meaning.specs.declared.relating.View.{View}
-use Rattle.mig_rules.specs.declared.steps.Rule.{Rule}
-use Rattle.mig_rules.specs.declared.steps.Rule.TheVariants as rule
-use Rattle.mig_rules.specs.declared.steps.Step.{Step}
+use Rattle.mig_steps.specs.declared.steps.Rule.{Rule}
+use Rattle.mig_steps.specs.declared.steps.Rule.TheVariants as rule
+use Rattle.mig_steps.specs.declared.steps.Step.{Step}
 use Rattle.mig_printing.specs.Printing.{col_text, cols_text, join_text, program_text}
 use Rattle.mig_certificate.specs.declared.proofs.Certificate.{Certificate}
 use Rattle.mig_certificate.specs.declared.proofs.Claim.{Claim}

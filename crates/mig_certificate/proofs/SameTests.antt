@@ -15,7 +15,7 @@ use Rattle.mig_schema.specs.declared.programs.Function.{Function}
 use Rattle.mig_schema.specs.Columns.{kind_of, same_kind}
 use Rattle.mig_meaning.specs.Functions.{SameSort, SameFunction}
 use Rattle.mig_meaning.specs.Run.{no_function}
-use Rattle.mig_rules.specs.Shaped.{same_kinds}
+use Rattle.mig_obligations.specs.Shaped.{same_kinds}
 use Rattle.mig_certificate.specs.declared.proofs.Claim.{Claim}
 use Rattle.mig_certificate.specs.declared.proofs.Claim.TheVariants.{Holds, Answers}
 use Rattle.mig_certificate.specs.BrokenPlace.{same_body, same_params, same_claim, differ}

@@ -10,15 +10,16 @@ use Rattle.mig_meaning.specs.Run.{no_function, function_at}
 use Rattle.mig_meaning.specs.Equivalent.{AnswersAlike, IsEquivalent}
 use Rattle.mig_meaning.specs.Meeting.{AreTyped}
 use Rattle.mig_algebra.specs.Proper.{Sides}
-use Rattle.mig_rules.specs.declared.proving.Obligation.{Obligation}
-use Rattle.mig_rules.specs.declared.steps.Step.{Step}
+use Rattle.mig_obligations.specs.declared.proving.Obligation.{Obligation}
+use Rattle.mig_steps.specs.declared.steps.Step.{Step}
 use Rattle.mig_rules.specs.Follow.{follow}
-use Rattle.mig_rules.specs.Obligations.{obligations, pair_at, AllMet}
+use Rattle.mig_obligations.specs.Obligations.{obligations, pair_at, AllMet}
 use Rattle.mig_rules.specs.Keeping.{FollowLaw}
-use Rattle.mig_rules.specs.Replay.{EndsMeet}
-use Rattle.mig_rules.proofs.Reached.{met-alike, met-equivalent}
-use Rattle.mig_rules.proofs.Replayed.{all-ends-met, steps-sound}
-use Rattle.mig_rules.proofs.ProperObligations.{fit-at, all-proper}
+use Rattle.mig_obligations.specs.Replay.{EndsMeet}
+use Rattle.mig_obligations.proofs.Reached.{met-alike, met-equivalent}
+use Rattle.mig_obligations.proofs.Replayed.{all-ends-met}
+use Rattle.mig_rules.proofs.StepsSound.{steps-sound}
+use Rattle.mig_obligations.proofs.ProperObligations.{fit-at, all-proper}
 use Rattle.mig_certificate.specs.declared.proofs.Entry.{Entry}
 use Rattle.mig_certificate.specs.declared.proofs.PairProof.{PairProof}
 use Rattle.mig_certificate.specs.declared.proofs.Certificate.{Certificate}

@@ -18,12 +18,12 @@ use Rattle.mig_algebra.specs.declared.terms.Expr.{Expr}
 use Rattle.mig_algebra.specs.Orders.{term_order}
 use Rattle.mig_algebra.specs.Proper.{Sides}
 use Rattle.mig_algebra.specs.Tidied.{tidied}
-use Rattle.mig_rules.specs.declared.proving.Obligation.{Obligation}
-use Rattle.mig_rules.specs.declared.steps.Step.{Step}
-use Rattle.mig_rules.specs.Shaped.{is_shaped, same_kinds}
-use Rattle.mig_rules.specs.Replay.{replay}
+use Rattle.mig_obligations.specs.declared.proving.Obligation.{Obligation}
+use Rattle.mig_steps.specs.declared.steps.Step.{Step}
+use Rattle.mig_obligations.specs.Shaped.{is_shaped, same_kinds}
+use Rattle.mig_obligations.specs.Replay.{replay}
 use Rattle.mig_rules.specs.Follow.{follow}
-use Rattle.mig_rules.specs.Obligations.{obligations}
+use Rattle.mig_obligations.specs.Obligations.{obligations}
 use Rattle.mig_certificate.specs.declared.proofs.Claim.{Claim}
 use Rattle.mig_certificate.specs.declared.proofs.Claim.TheVariants.{Holds, Answers}
 use Rattle.mig_certificate.specs.declared.proofs.Entry.{Entry}

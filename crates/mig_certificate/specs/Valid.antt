@@ -10,11 +10,11 @@ use Rattle.mig_schema.specs.declared.jobs.Job.{Job}
 use Rattle.mig_meaning.specs.declared.relating.Invariant.{Invariant}
 use Rattle.mig_meaning.specs.Functions.{SameFunctions}
 use Rattle.mig_algebra.specs.Proper.{Sides}
-use Rattle.mig_rules.specs.Shaped.{is_shaped}
-use Rattle.mig_rules.specs.Replay.{EndsMeet}
+use Rattle.mig_obligations.specs.Shaped.{is_shaped}
+use Rattle.mig_obligations.specs.Replay.{EndsMeet}
 use Rattle.mig_rules.specs.Follow.{follow}
-use Rattle.mig_rules.specs.Obligations.{obligations}
-use Rattle.mig_rules.specs.declared.proving.Obligation.{Obligation}
+use Rattle.mig_obligations.specs.Obligations.{obligations}
+use Rattle.mig_obligations.specs.declared.proving.Obligation.{Obligation}
 use Rattle.mig_certificate.specs.declared.proofs.Claim.{Claim}
 use Rattle.mig_certificate.specs.declared.proofs.Claim.TheVariants.{Holds, Answers}
 use Rattle.mig_certificate.specs.declared.proofs.Entry.{Entry}

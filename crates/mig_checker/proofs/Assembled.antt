@@ -8,7 +8,7 @@ use Rattle.mig_typing.specs.Broken.{item_has}
 use Rattle.mig_meaning.specs.declared.relating.Invariant.{Invariant}
 use Rattle.mig_meaning.specs.Meeting.{AreTyped}
 use Rattle.mig_rules.specs.Keeping.{FollowLaw}
-use Rattle.mig_rules.specs.Shaped.{is_shaped}
+use Rattle.mig_obligations.specs.Shaped.{is_shaped}
 use Rattle.mig_certificate.specs.declared.proofs.Certificate.{Certificate}
 use Rattle.mig_certificate.specs.Valid.{IsValid}
 use Rattle.mig_certificate.specs.BrokenPlace.{Place, FunctionDiffers, InvariantUnshaped, PairMissing, EntryMissing, StepFails, EndsDiffer, EntryExtra, PairExtra, numbers, differ, broken}

@@ -11,9 +11,9 @@ use Rattle.mig_algebra.specs.declared.terms.Expr.{Expr}
 use Rattle.mig_algebra.specs.Orders.{term_order}
 use Rattle.mig_algebra.specs.Proper.{Sides}
 use Rattle.mig_algebra.specs.Tidied.{tidied}
-use Rattle.mig_rules.specs.declared.proving.Obligation.{Obligation}
+use Rattle.mig_obligations.specs.declared.proving.Obligation.{Obligation}
 use Rattle.mig_rules.specs.Follow.{follow}
-use Rattle.mig_rules.specs.Replay.{replay}
+use Rattle.mig_obligations.specs.Replay.{replay}
 use Rattle.mig_certificate.specs.declared.proofs.Claim.{Claim}
 use Rattle.mig_certificate.specs.declared.proofs.Entry.{Entry}
 use Rattle.mig_certificate.specs.BrokenPlace.{is_none, same_claim, step_fails, entry_fails, ends_differ}

@@ -12,8 +12,8 @@ use Rattle.mig_typing.specs.First.{IsFirst, Before}
 use Rattle.mig_typing.specs.Broken.{item_has}
 use Rattle.mig_meaning.specs.declared.relating.Invariant.{Invariant}
 use Rattle.mig_algebra.specs.Proper.{Sides}
-use Rattle.mig_rules.specs.declared.proving.Obligation.{Obligation}
-use Rattle.mig_rules.specs.Obligations.{obligations}
+use Rattle.mig_obligations.specs.declared.proving.Obligation.{Obligation}
+use Rattle.mig_obligations.specs.Obligations.{obligations}
 use Rattle.mig_certificate.specs.declared.proofs.Claim.{Claim}
 use Rattle.mig_certificate.specs.declared.proofs.Entry.{Entry}
 use Rattle.mig_certificate.specs.declared.proofs.PairProof.{PairProof}

@@ -30,9 +30,9 @@ use Rattle.mig_algebra.specs.Orders.{term_order}
 use Rattle.mig_algebra.proofs.OrderLaws.{term_total}
 use Rattle.mig_algebra.specs.Proper.{Sides}
 use Rattle.mig_algebra.specs.Tidied.{tidied}
-use Rattle.mig_rules.specs.declared.proving.Obligation.{Obligation}
-use Rattle.mig_rules.specs.Shaped.{is_shaped, same_kinds}
-use Rattle.mig_rules.specs.Obligations.{obligations}
+use Rattle.mig_obligations.specs.declared.proving.Obligation.{Obligation}
+use Rattle.mig_obligations.specs.Shaped.{is_shaped, same_kinds}
+use Rattle.mig_obligations.specs.Obligations.{obligations}
 use Rattle.mig_certificate.specs.declared.proofs.Claim.{Claim}
 use Rattle.mig_certificate.specs.declared.proofs.Claim.TheVariants.{Holds, Answers}
 use Rattle.mig_certificate.specs.declared.proofs.Entry.{Entry}

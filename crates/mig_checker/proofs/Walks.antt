@@ -5,9 +5,9 @@ use Rattle.std.specs.Option.{option_map_or, option_and_then}
 use Rattle.mig_meaning.specs.declared.relating.Invariant.{Invariant}
 use Rattle.mig_algebra.specs.declared.terms.Expr.{Expr}
 use Rattle.mig_algebra.specs.Proper.{Sides}
-use Rattle.mig_rules.specs.declared.steps.Step.{Step}
+use Rattle.mig_steps.specs.declared.steps.Step.{Step}
 use Rattle.mig_rules.specs.Follow.{follow}
-use Rattle.mig_rules.specs.Replay.{replay}
+use Rattle.mig_obligations.specs.Replay.{replay}
 use Rattle.mig_typing.specs.First.{IsFirstBroken}
 use Rattle.mig_typing.proofs.Firsts.{first_number}
 use Rattle.mig_certificate.specs.BrokenPlace.{is_none, step_fails}

@@ -8,11 +8,11 @@ use Rattle.mig_typing.specs.First.{IsFirstBroken}
 use Rattle.mig_meaning.specs.declared.relating.Invariant.{Invariant}
 use Rattle.mig_algebra.specs.declared.terms.Expr.{Expr}
 use Rattle.mig_algebra.specs.Proper.{Sides}
-use Rattle.mig_rules.specs.declared.proving.Obligation.{Obligation}
-use Rattle.mig_rules.specs.declared.steps.Step.{Step}
+use Rattle.mig_obligations.specs.declared.proving.Obligation.{Obligation}
+use Rattle.mig_steps.specs.declared.steps.Step.{Step}
 use Rattle.mig_rules.specs.Follow.{follow}
-use Rattle.mig_rules.specs.Obligations.{obligations}
-use Rattle.mig_rules.specs.Replay.{replay}
+use Rattle.mig_obligations.specs.Obligations.{obligations}
+use Rattle.mig_obligations.specs.Replay.{replay}
 use Rattle.mig_certificate.specs.declared.proofs.Claim.{Claim}
 use Rattle.mig_certificate.specs.declared.proofs.Entry.{Entry}
 use Rattle.mig_certificate.specs.declared.proofs.PairProof.{PairProof}

@@ -5,7 +5,7 @@ use Rattle.mig_schema.specs.declared.programs.Function.{Function}
 use Rattle.mig_schema.specs.declared.programs.Program.{Program}
 use Rattle.mig_schema.specs.declared.jobs.Job.{Job}
 use Rattle.mig_typing.specs.First.{IsFirstBroken}
-use Rattle.mig_rules.specs.Obligations.{obligations}
+use Rattle.mig_obligations.specs.Obligations.{obligations}
 use Rattle.mig_certificate.specs.declared.proofs.Entry.{Entry}
 use Rattle.mig_certificate.specs.declared.proofs.PairProof.{PairProof}
 use Rattle.mig_certificate.specs.declared.proofs.Certificate.{Certificate}

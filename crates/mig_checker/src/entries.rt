@@ -5,7 +5,7 @@ ghost use Rattle.std.specs.Cmp.Lexicographic.{slice_cmp};
 ghost use Rattle.mig_typing.specs.First.{IsFirst};
 ghost use Rattle.mig_algebra.specs.Orders as orders;
 ghost use Rattle.mig_algebra.specs.Tidied.{tidied};
-ghost use Rattle.mig_rules.specs.Applying.{sides_of};
+ghost use Rattle.mig_obligations.specs.Pairs.{sides_of};
 ghost use Rattle.mig_certificate.specs.BrokenPlace as broken;
 ghost use Rattle.mig_checker.specs.declared.places.InEntry.TheVariants as AnInEntry;
 ghost use Rattle.mig_checker.specs.Inside as spec;

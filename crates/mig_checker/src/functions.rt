@@ -2,7 +2,7 @@
 ghost use Rattle.std.specs.Prelude.{◌≡◌, ◌∷◌, [], slice_get};
 ghost use Rattle.std.specs.Option.{option_copied};
 ghost use Rattle.mig_typing.specs.First.{IsFirst};
-ghost use Rattle.mig_rules.specs.Shaped as shaped;
+ghost use Rattle.mig_obligations.specs.Shaped as shaped;
 ghost use Rattle.mig_certificate.specs.BrokenPlace as spec;
 
 use mig_base::same_text;

@@ -2,9 +2,9 @@
 ghost use Rattle.std.specs.Prelude.{◌≡◌, IfOk, length, slice_get};
 ghost use Rattle.std.specs.Option.{option_map};
 ghost use Rattle.mig_certificate.specs.Valid.{claim_of};
-ghost use Rattle.mig_rules.specs.Applying.{sides_of};
-ghost use Rattle.mig_rules.specs.Obligations.{holds_obligation, obligations};
-ghost use Rattle.mig_rules.specs.Settings.{statements};
+ghost use Rattle.mig_obligations.specs.Pairs.{sides_of};
+ghost use Rattle.mig_obligations.specs.Obligations.{holds_obligation, obligations};
+ghost use Rattle.mig_obligations.specs.Settings.{statements};
 
 use mig_algebra::Invariants;
 use mig_certificate::Claim;

@@ -1,9 +1,9 @@
 // The first pair of functions whose proof is broken.
 ghost use Rattle.std.specs.Prelude.{◌≡◌, ◌∷◌, IfOk, length};
 ghost use Rattle.std.specs.Option.{option_copied};
-ghost use Rattle.mig_rules.specs.Obligations.{obligations};
+ghost use Rattle.mig_obligations.specs.Obligations.{obligations};
 ghost use Rattle.mig_typing.specs.First.{IsFirst};
-ghost use Rattle.mig_rules.specs.Applying.{sides_of};
+ghost use Rattle.mig_obligations.specs.Pairs.{sides_of};
 ghost use Rattle.mig_certificate.specs.BrokenPlace.{broken};
 ghost use Rattle.mig_checker.specs.Inside as spec;
 

@@ -5,7 +5,7 @@ ghost use Rattle.mig_schema.specs.Columns as columns;
 ghost use Rattle.mig_schema.specs.Joins as joins;
 ghost use Rattle.mig_typing.specs.First.{IsFirst};
 ghost use Rattle.mig_typing.specs.Broken.{item_has};
-ghost use Rattle.mig_rules.specs.Shaped as spec;
+ghost use Rattle.mig_obligations.specs.Shaped as spec;
 
 use crate::functions::same_kinds;
 use mig_algebra::{Invariant, Invariants, View};

@@ -1,6 +1,6 @@
 // Steps in turn.
 ghost use Rattle.std.specs.Prelude.{IfOk};
-ghost use Rattle.mig_rules.specs.Applying.{sides_of};
+ghost use Rattle.mig_obligations.specs.Pairs.{sides_of};
 ghost use Rattle.mig_checker.specs.Inside.{IsWalk};
 
 use mig_algebra::Expr;

@@ -12,7 +12,7 @@ use Rattle.mig_schema.specs.Columns.{kind_of, has_column, same_col}
 use Rattle.mig_schema.specs.Plain.{is_one_table, IsPlain}
 use Rattle.mig_schema.specs.Typed.{hint_end, hint_kinds, IsTyped}
 use Rattle.mig_meaning.specs.Lists.{In}
-use Rattle.mig_rules.proofs.WrittenFits.{same-kind}
+use Rattle.mig_steps.proofs.SameKinds.{same-kind}
 use Rattle.mig_cli.specs.Renaming.{image, origin}
 use Rattle.mig_cli.proofs.Passing.{in-none, found-passes, found-in, one-found, the-found}
 use Rattle.mig_cli.proofs.OneTable.{same-column, own-column, each-column}

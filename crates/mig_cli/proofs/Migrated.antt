@@ -5,8 +5,7 @@ use Rattle.mig_syntax.specs.declared.fault.TextFault.{TextFault}
 use Rattle.mig_syntax.specs.declared.fault.TextFault.TheVariants as fault
 use Rattle.mig_words.specs.declared.command.Command.TheVariants.{Migrate}
 use Rattle.mig_rules.specs.Keeping.{FollowLaw}
-use Rattle.mig_rules.proofs.FollowProper.{follow-proper}
-use Rattle.mig_rules.proofs.FollowKeeps.{follow-keeps}
+use Rattle.mig_rules.proofs.FollowSound.{follow-law}
 use Rattle.mig_certificate.proofs.Shown.{valid-equivalent}
 use Rattle.mig_messages.specs.declared.status.Status.TheVariants as status
 use Rattle.mig_messages.specs.Statuses.{fault_status, number}
@@ -26,7 +25,7 @@ use Rattle.mig_cli.proofs.Spelled.{text-spelled}
 
 -- a step that follows leads to a proper expression with the same bag
 law : FollowLaw
-law = record { proper = follow-proper; bag = follow-keeps }
+law = follow-law
 
 -- the answer to a plain job is a migration of it
 answer-migrates : (bytes : List ℕ) (job : Job) → IsPlainJobText bytes job → IsMigration bytes (migrating.answer job)

@@ -14,8 +14,8 @@ use Rattle.mig_typing.proofs.Anys.{any-same}
 use Rattle.mig_algebra.specs.declared.atoms.Atom.{Atom}
 use Rattle.mig_algebra.specs.Obligations.{col_atom, scalar_atom}
 use Rattle.mig_algebra.specs.Rename.{renumbered, without}
-use Rattle.mig_rules.specs.Unfolding.{written_atom}
-use Rattle.mig_rules.specs.Folding.{atom_folds, image_of, folded_atom}
+use Rattle.mig_unfolding.specs.Unfolding.{written_atom}
+use Rattle.mig_folding.specs.Folding.{atom_folds, image_of, folded_atom}
 use Rattle.mig_cli.specs.Renaming.{image, value_at, one_table, renamed_values}
 use Rattle.mig_cli.proofs.Passing.{all-from}
 use Rattle.mig_cli.proofs.OneTable.{same-column, column_of_first, of-first, any-column}

@@ -1,8 +1,8 @@
 -- What a term of one table becomes: by an insert that leads to its stage, and by a view of the table.
-use Rattle.std.proofs.Common.{◌≡◌, ℕ, Bool, true, List, [], ◌∷◌, map, Some, None, ap}
+use Rattle.std.proofs.Common.{◌≡◌, ℕ, Bool, true, List, [], ◌∷◌, ◌++◌, map, Some, None, ap}
 use Rattle.std.specs.Prelude.{cond, slice_get}
 use Rattle.std.specs.List.{list_all}
-use Rattle.std.specs.Option.{option_and_then}
+use Rattle.std.specs.Option.{option_map, option_and_then}
 use Rattle.mig_schema.specs.declared.faults.Side.{Side}
 use Rattle.mig_schema.specs.declared.faults.Side.TheVariants.{Old, New}
 use Rattle.mig_schema.specs.declared.tables.ColId.{ColId}
@@ -16,9 +16,10 @@ use Rattle.mig_algebra.specs.declared.terms.Term.{Term}
 use Rattle.mig_algebra.specs.Obligations.{var_of}
 use Rattle.mig_algebra.specs.Proper.{Sides}
 use Rattle.mig_algebra.specs.Rename.{without}
-use Rattle.mig_rules.specs.Unfolding.{written_atom, unfolded}
-use Rattle.mig_rules.specs.Folding.{atom_folds, folded_atom}
-use Rattle.mig_rules.specs.Follow.{statements_at, put_terms, limited, follow}
+use Rattle.mig_unfolding.specs.Unfolding.{written_atom, unfolded}
+use Rattle.mig_folding.specs.Folding.{atom_folds, folded_atom}
+use Rattle.mig_unfolding.specs.Stages.{statements_at}
+use Rattle.mig_rules.specs.Follow.{put_terms, limited, follow}
 use Rattle.mig_cli.specs.Renaming.{one_table, unfolds, folds}
 
 -- the rows of table 0 at a stage of a side, with these values
@@ -49,14 +50,14 @@ head_folds outs head = list_all (atom_folds 0 (record { join = one_table; outs =
 pub rows-unfolded : (p : Sides) (invs : List Invariant) (side : Side) (values : List Assign) (head : List Atom) → statements_at p side ≡ Insert one_table values ∷ []
     → follow p invs unfolds (record { terms = rows_at side 1 head ∷ [] }) ≡ Some (record { terms = rows_at side 0 head ∷ (one_row (written_head values head) ∷ []) })
 rows-unfolded p invs side values head e =
-    ap (λ (ss : List Stmt). option_and_then (λ us. limited (record { terms = put_terms 0 us (rows_at side 1 head ∷ []) })) (option_and_then (λ s. unfolded s 0 0 (rows_at side 1 head)) (slice_get ss 0))) e
+    ap (λ (ss : List Stmt). option_and_then (λ us. limited (record { terms = put_terms 0 us (rows_at side 1 head ∷ []) })) (option_map (λ us. us ++ []) (option_and_then (λ s. unfolded s 0 0 (rows_at side 1 head)) (slice_get ss 0)))) e
 
 -- the old rows are the new ones, where all their values are outputs of the view
 module _ (p : Sides) (outs images : List ColId) (head : List Atom) (f : head_folds outs head ≡ true) where
   folded-within : (rest : List Term) → follow p (one_view outs images ∷ []) folds (record { terms = rows_at Old 0 head ∷ rest })
       ≡ limited (record { terms = rows_at New 0 (folded_head outs images head) ∷ rest })
   folded-within rest =
-      ap (λ b. option_and_then (λ us. limited (record { terms = put_terms 0 us (rows_at Old 0 head ∷ rest) })) (cond b (Some (rows_at New 0 (folded_head outs images head) ∷ [])) None)) f
+      ap (λ b. option_and_then (λ us. limited (record { terms = put_terms 0 us (rows_at Old 0 head ∷ rest) })) (option_map (λ us. us ++ rest) (cond b (Some (rows_at New 0 (folded_head outs images head) ∷ [])) None))) f
 
   pub rows-folded : follow p (one_view outs images ∷ []) folds (record { terms = rows_at Old 0 head ∷ [] }) ≡ Some (record { terms = rows_at New 0 (folded_head outs images head) ∷ [] })
   rows-folded = folded-within []

@@ -21,8 +21,8 @@ use Rattle.mig_meaning.specs.declared.relating.Invariant.{Invariant}
 use Rattle.mig_algebra.specs.Proper.{Sides}
 use Rattle.mig_algebra.specs.Tidied.{tidied}
 use Rattle.mig_algebra.proofs.ObligedFits.{kinds-same}
-use Rattle.mig_rules.specs.Shaped.{is_shaped, view_shaped, same_kinds}
-use Rattle.mig_rules.specs.Replay.{replay}
+use Rattle.mig_obligations.specs.Shaped.{is_shaped, view_shaped, same_kinds}
+use Rattle.mig_obligations.specs.Replay.{replay}
 use Rattle.mig_rules.specs.Follow.{follow}
 use Rattle.mig_certificate.specs.Valid.{sides, IsProofOf, AreProofsOf, IsValid}
 use Rattle.mig_cli.specs.Renaming.{image, one_table, renamed_values, renamed_function, renamed, renaming_view, folds, renaming_pair, renaming_views, renaming_certificate}

@@ -12,7 +12,7 @@ use Rattle.mig_schema.specs.Columns.{has_column, same_col}
 use Rattle.mig_meaning.specs.Lists.{In}
 use Rattle.mig_algebra.specs.declared.atoms.Atom.{Atom}
 use Rattle.mig_algebra.specs.Obligations.{scalar_atom}
-use Rattle.mig_rules.specs.Unfolding.{written_atom}
+use Rattle.mig_unfolding.specs.Unfolding.{written_atom}
 use Rattle.mig_cli.specs.Renaming.{assign_to, value_at, origin, renamed_value}
 use Rattle.mig_cli.proofs.Passing.{found-passes, found-in, one-found}
 use Rattle.mig_cli.proofs.OneTable.{same-column}

@@ -18,8 +18,8 @@ use Rattle.mig_schema.specs.declared.jobs.Hint.{Hint}
 use Rattle.mig_schema.specs.declared.jobs.Job.{Job}
 use Rattle.mig_meaning.specs.declared.relating.Invariant.{Invariant}
 use Rattle.mig_meaning.specs.declared.relating.Invariant.TheVariants as invariant
-use Rattle.mig_rules.specs.declared.steps.Step.{Step}
-use Rattle.mig_rules.specs.declared.steps.Rule.TheVariants as rule
+use Rattle.mig_steps.specs.declared.steps.Step.{Step}
+use Rattle.mig_steps.specs.declared.steps.Rule.TheVariants as rule
 use Rattle.mig_certificate.specs.declared.proofs.Claim.TheVariants as claim
 use Rattle.mig_certificate.specs.declared.proofs.Entry.{Entry}
 use Rattle.mig_certificate.specs.declared.proofs.PairProof.{PairProof}

@@ -1,11 +1,7 @@
-pub mod Applying
-pub mod Folding
+pub mod First
 pub mod Follow
-pub mod Forming
 pub mod Keeping
-pub mod Limits
-pub mod Obligations
-pub mod Replay
-pub mod Settings
-pub mod Shaped
-pub mod Unfolding
+pub mod Laws
+pub mod Offered
+pub mod Quiet
+pub mod Taking

@@ -1,23 +1,16 @@
-//! What is to be shown of a pair of functions, and the steps that show it.
+//! The tables of rules: the step that follows, what it leads to, and the first of all.
 #![tactic(auto)]
 
-mod answering;
-mod applying;
-mod folding;
-mod forming;
-mod holding;
-mod keeping;
+mod finding;
+mod following;
 mod laws;
-mod limits;
-mod proving;
-mod steps;
-mod testing;
-mod unfolding;
+mod resuming;
+mod taking;
 
-pub use answering::answers;
-pub use applying::apply;
-pub use holding::holds;
-pub use keeping::steps_keep_bags;
-pub use laws::{met_obligations_answer_alike, met_obligations_make_equivalent};
-pub use proving::{Facts, Obligation, Pair};
-pub use steps::{Rule, Step, StepFault};
+pub use finding::first;
+pub use following::apply;
+pub use laws::{first_step_is_least, quiet_terms_stay_quiet, steps_keep_bags};
+pub use mig_obligations::{Obligation, Pair, answers, holds};
+pub use mig_steps::{Facts, Rule, Step, StepFault};
+pub use resuming::first_from;
+pub use taking::{Taken, none_known, take_first};

@@ -6,12 +6,24 @@ use mig_rules::{Rule, Step};
 use mig_schema::{ColId, Join, Side};
 use std::alloc::{AllocError, Global};
 
-const RULES: [(&str, Rule); 5] = [
+const RULES: [(&str, Rule); 17] = [
     ("stage", Rule::Stage),
     ("stagein", Rule::StageIn),
     ("dead", Rule::Dead),
-    ("fold", Rule::Fold),
+    ("same", Rule::Same),
     ("implied", Rule::Implied),
+    ("lift", Rule::Lift),
+    ("split", Rule::Split),
+    ("found", Rule::Found),
+    ("alone", Rule::Alone),
+    ("inside", Rule::Inside),
+    ("never", Rule::Never),
+    ("merge", Rule::Merge),
+    ("apart", Rule::Apart),
+    ("lossless", Rule::Lossless),
+    ("fold", Rule::Fold),
+    ("foldin", Rule::FoldIn),
+    ("rejoin", Rule::Rejoin),
 ];
 
 fn rule(word: &str) -> Result<Rule, AllocError> {
@@ -57,7 +69,7 @@ pub(crate) fn step(alloc: Global, text: &str) -> Result<Step, AllocError> {
 }
 
 /// The steps between commas.
-fn steps(alloc: Global, text: &str) -> Result<Seq<Step>, AllocError> {
+pub(crate) fn steps(alloc: Global, text: &str) -> Result<Seq<Step>, AllocError> {
     let mut steps = Seq::new(alloc);
     for part in text.split(',') {
         if !part.trim().is_empty() {

@@ -10,11 +10,19 @@ mod copies;
 #[cfg(test)]
 mod expressions;
 #[cfg(test)]
+mod firsts;
+#[cfg(test)]
+mod given;
+#[cfg(test)]
 mod jobs;
+#[cfg(test)]
+mod literals;
 #[cfg(test)]
 mod printed;
 #[cfg(test)]
 mod replaced;
+#[cfg(test)]
+mod rows;
 #[cfg(test)]
 mod steps;
 #[cfg(test)]

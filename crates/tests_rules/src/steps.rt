@@ -39,18 +39,23 @@ const REFUSED: [&str; 9] = [
     "fold 0 - 0",
 ];
 
-/// The job, its new program, and the invariant that one table is the other.
+/// The job, its new program, and invariants; without others, that one table is the other.
 #[derive(Drop)]
-struct Sample {
+pub(crate) struct Sample {
     job: Job,
     program: Program,
-    invariants: Invariants,
+    pub(crate) invariants: Invariants,
 }
 
-fn sampled(alloc: Global) -> Result<Sample, Fail> {
+pub(crate) fn sampled(alloc: Global) -> Result<Sample, Fail> {
+    sampled_with(alloc, "view 0.0 0.1 is 0.0 0.1")
+}
+
+/// The same with other invariants.
+pub(crate) fn sampled_with(alloc: Global, facts: &str) -> Result<Sample, Fail> {
     let job = job(alloc)?;
     let program = program(alloc, &job, RENAMED)?;
-    let invariants = invariants(alloc, "view 0.0 0.1 is 0.0 0.1")?;
+    let invariants = invariants(alloc, facts)?;
     Ok(Sample {
         job,
         program,
@@ -59,7 +64,7 @@ fn sampled(alloc: Global) -> Result<Sample, Fail> {
 }
 
 /// The functions of this number.
-fn pair(sample: &Sample, at: usize) -> Option<Pair<'_>> {
+pub(crate) fn pair(sample: &Sample, at: usize) -> Option<Pair<'_>> {
     Some(Pair {
         source: &sample.job.source,
         target: &sample.job.target,
@@ -106,7 +111,12 @@ fn obligations_are_the_rows_of_both_sides(rt: HostRuntime) -> Result<(), Fail> {
 }
 
 /// What a step leads to.
-fn applied(alloc: Global, sample: &Sample, used: &str, given: &str) -> Result<Expr, StepFault> {
+pub(crate) fn applied(
+    alloc: Global,
+    sample: &Sample,
+    used: &str,
+    given: &str,
+) -> Result<Expr, StepFault> {
     let Some(pair) = pair(sample, 0) else {
         return Err(StepFault::Memory);
     };
@@ -120,7 +130,7 @@ fn applied(alloc: Global, sample: &Sample, used: &str, given: &str) -> Result<Ex
     }
 }
 
-fn leads_to(
+pub(crate) fn leads_to(
     alloc: Global,
     sample: &Sample,
     used: &str,

@@ -2,8 +2,7 @@
 use Rattle.std.proofs.Common.{ap, refl, subst, arith, length}
 use Rattle.std.proofs.lemmas.Bool.{lt-ltb}
 use Rattle.mig_rules.specs.Keeping.{FollowLaw}
-use Rattle.mig_rules.proofs.FollowKeeps.{follow-keeps}
-use Rattle.mig_rules.proofs.FollowProper.{follow-proper}
+use Rattle.mig_rules.proofs.FollowSound.{follow-law}
 use Rattle.mig_certificate.specs.BrokenPlace.{FunctionDiffers, InvariantUnshaped, PairExtra}
 use Rattle.mig_checker.specs.declared.verdicts.Verdict.TheVariants.{Accepted, Rejected}
 use Rattle.mig_checker.specs.declared.verdicts.Why.TheVariants as why
@@ -16,7 +15,7 @@ use Rattle.mig_checker.proofs.checking.check.Goals as goal
 
 -- the law of steps
 law : FollowLaw
-law = record { proper = follow-proper; bag = follow-keeps }
+law = follow-law
 
 -- ---- a function differs
 

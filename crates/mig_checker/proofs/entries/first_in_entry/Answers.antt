@@ -1,7 +1,7 @@
 -- The claim is the right one; the first block that is stuck, or the ends, decide.
 use Rattle.std.proofs.Common.{◌+◌, sym, ap, ◌∙◌, subst, Some}
 use Rattle.mig_typing.specs.First.{IsFirst}
-use Rattle.mig_rules.specs.Applying.{sides_of}
+use Rattle.mig_obligations.specs.Pairs.{sides_of}
 use Rattle.mig_checker.specs.declared.places.InEntry.TheVariants.{Step}
 use Rattle.mig_checker.specs.Inside.{entry_numbers, entry_broken}
 use Rattle.mig_checker.proofs.Walks.{walk-end, walk-stuck}

@@ -2,7 +2,7 @@
 use Rattle.std.proofs.Common.{sym, ◌∙◌}
 use Rattle.std.proofs.lemmas.Result.{IfOk-weaker}
 use Rattle.mig_typing.specs.First.{IsFirst}
-use Rattle.mig_rules.specs.Applying.{sides_of}
+use Rattle.mig_obligations.specs.Pairs.{sides_of}
 use Rattle.mig_checker.specs.Inside.{entry_numbers, entry_broken, entry_at_broken}
 use Rattle.mig_checker.proofs.InPairs.{entry-there}
 use Rattle.mig_checker.proofs.pairs.first_at.Goals as goal

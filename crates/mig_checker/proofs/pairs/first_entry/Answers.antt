@@ -1,7 +1,7 @@
 -- The first entry that is broken is the one before which none is.
 use Rattle.std.proofs.Common.{arith, subst}
 use Rattle.mig_typing.specs.First.{IsFirst}
-use Rattle.mig_rules.specs.Applying.{sides_of}
+use Rattle.mig_obligations.specs.Pairs.{sides_of}
 use Rattle.mig_checker.specs.Inside.{entry_numbers, entry_at_broken}
 use Rattle.mig_checker.proofs.InPairs.{past-obligations}
 use Rattle.mig_checker.proofs.Loops.{none-up-to, none-found}

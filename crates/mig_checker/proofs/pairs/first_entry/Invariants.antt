@@ -1,5 +1,5 @@
 use Rattle.std.proofs.Common.{◌≡◌, ℕ, ◌<◌, false}
-use Rattle.mig_rules.specs.Applying.{sides_of}
+use Rattle.mig_obligations.specs.Pairs.{sides_of}
 use Rattle.mig_checker.specs.declared.places.InEntry.{InEntry}
 use Rattle.mig_checker.specs.Inside.{entry_at_broken}
 use Rattle.mig_checker.proofs.pairs.first_entry.Given as goal

@@ -2,8 +2,8 @@
 use Rattle.std.proofs.Common.{ℕ, ◌∷◌, subst, arith, length}
 use Rattle.std.proofs.lemmas.Bool.{lt-ltb, le-ltb}
 use Rattle.mig_typing.specs.First.{IsFirst}
-use Rattle.mig_rules.specs.Applying.{sides_of}
-use Rattle.mig_rules.specs.Obligations.{obligations}
+use Rattle.mig_obligations.specs.Pairs.{sides_of}
+use Rattle.mig_obligations.specs.Obligations.{obligations}
 use Rattle.mig_checker.specs.declared.places.InEntry.{InEntry}
 use Rattle.mig_checker.specs.Inside.{entry_numbers, entry_at_broken}
 use Rattle.mig_checker.proofs.InPairs.{entry-first, extra-first, entries-clear}

@@ -1,7 +1,7 @@
 -- A step that follows is one more, and one that doesn't is the first.
 use Rattle.std.proofs.Common.{refl, length}
 use Rattle.std.proofs.lemmas.Option.{slice_get_read}
-use Rattle.mig_rules.specs.Applying.{sides_of}
+use Rattle.mig_obligations.specs.Pairs.{sides_of}
 use Rattle.mig_checker.proofs.Walks.{step-more, stuck-at}
 use Rattle.mig_checker.proofs.walking.follow_all.Goals as goal
 

@@ -1,0 +1,14 @@
+pub mod DeadSound
+pub mod Differing
+pub mod ImpliedSound
+pub mod LiftedSound
+pub mod NeverSound
+pub mod RejoinRows
+pub mod RejoinedSound
+pub mod RejoinedTried
+pub mod SameClasses
+pub mod SameKeeps
+pub mod SameProper
+pub mod SameSound
+pub mod SplitSound
+pub mod Ties

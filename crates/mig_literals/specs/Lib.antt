@@ -1,0 +1,7 @@
+pub mod Dead
+pub mod Implied
+pub mod Lifted
+pub mod Never
+pub mod Rejoined
+pub mod Same
+pub mod Split

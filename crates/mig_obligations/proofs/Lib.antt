@@ -1,0 +1,3 @@
+pub mod ProperObligations
+pub mod Reached
+pub mod Replayed

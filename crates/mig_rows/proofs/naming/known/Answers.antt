@@ -1,0 +1,7 @@
+use Rattle.std.proofs.Common.{arith}
+use Rattle.std.proofs.lemmas.Grind.{common_steps}
+use Rattle.mig_steps.proofs.SpotPlaces.{plain-others}
+use Rattle.mig_rows.proofs.naming.known.Goals as goal
+
+pub returns : goal.returns
+returns c = let e = plain-others c.args.lits.now c.args.at in grind (arith, common_steps)

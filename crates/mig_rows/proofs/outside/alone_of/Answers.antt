@@ -1,0 +1,7 @@
+use Rattle.std.proofs.Common.{[], sym, ◌∙◌}
+use Rattle.mig_steps.proofs.Leading.{of-body}
+use Rattle.mig_rows.specs.Alone.{alone_in}
+use Rattle.mig_rows.proofs.outside.alone_of.Goals as goal
+
+pub returns-in_ok-all-in-Any : goal.returns-in_ok-all-in-Any
+returns-in_ok-all-in-Any c = c.in_ok-all-in-Any.ensures ∙ sym (of-body (λ held vars lits. alone_in c.args.invariants.now c.args.scope.now vars) [] c.args.lit.now c.in-Any.held c.in-Any.inner c.in-Any.is)

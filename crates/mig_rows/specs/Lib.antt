@@ -1,0 +1,9 @@
+pub mod Alone
+pub mod Inside
+pub mod Lossless
+pub mod Merged
+pub mod Naming
+pub mod Parted
+pub mod Ranging
+pub mod Worked
+pub mod Writing

@@ -1,5 +1,0 @@
-use Rattle.mig_rules.proofs.Reached.{met-alike}
-use Rattle.mig_rules.proofs.laws.met_obligations_answer_alike.Goals as goal
-
-pub returns : goal.returns
-returns c = record { by = met-alike }

@@ -1,5 +1,0 @@
-use Rattle.mig_rules.proofs.Reached.{met-equivalent}
-use Rattle.mig_rules.proofs.laws.met_obligations_make_equivalent.Goals as goal
-
-pub returns : goal.returns
-returns c = record { by = met-equivalent }

@@ -1,0 +1,11 @@
+pub mod ChosenSteps
+pub mod Counted
+pub mod FitBodies
+pub mod Leading
+pub mod Moments
+pub mod Named
+pub mod OfferedPaths
+pub mod Options
+pub mod SameKinds
+pub mod SpotPlaces
+pub mod WaysSound

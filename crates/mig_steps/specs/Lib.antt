@@ -1,0 +1,12 @@
+pub mod Bodies
+pub mod Choosing
+pub mod Laws
+pub mod Limits
+pub mod Offering
+pub mod Paths
+pub mod Reached
+pub mod Seeing
+pub mod Sound
+pub mod Spots
+pub mod Variables
+pub mod Ways

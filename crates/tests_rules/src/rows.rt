@@ -1,0 +1,96 @@
+// Steps by the rules on rows, worked out by hand.
+use crate::steps::{applied, leads_to, sampled_with};
+use mig_rules::StepFault;
+use std::test::Fail;
+
+/// What is known of the rows of tables 0 and 1 before the call.
+const FACTS: &str = "unique old 0.0\napart old 0.0 1.0\nwithin old 0.1 1.0\nunique old 1.0";
+
+/// Steps, the expressions that they are made on, and those that they lead to.
+const FOLLOW: [(&str, &str, &str); 6] = [
+    (
+        "merge 0 - 0 1 0",
+        "o0 o0 0.0=1.0 0.1<1.1 0~1 -> 1.1",
+        "o0 0.0=0.0 0.1<0.1 0~0 -> 0.1",
+    ),
+    (
+        "apart 0 - 0 1 1",
+        "o0 o1 p0=0.0 p0=1.0 -> 0.1; -> p0",
+        "-> p0",
+    ),
+    (
+        "alone 0 1 1 0 0",
+        "o0 p0=0.0 none( o0 p0=1.0 0.1<1.1 )",
+        "o0 p0=0.0 none( p0=0.0 0.1<0.1 )",
+    ),
+    ("inside 0 0 1 0 2", "o0 none( o1 0.1=1.0 )", "o0 none( )"),
+    ("lossless 0 - 1 0 2 3", "o0 o1 0.1=1.0 -> 0.0", "o0 -> 0.0"),
+    (
+        "lossless 0 - 1 0 2 3",
+        "o0 o1 p0=0.1 p0=1.0 -> 0.0",
+        "o0 p0=0.1 -> 0.0",
+    ),
+];
+
+#[test]
+fn rows_go_as_by_hand(rt: HostRuntime) -> Result<(), Fail> {
+    let sample = sampled_with(rt.alloc(), FACTS)?;
+    for (used, given, want) in FOLLOW {
+        let right = leads_to(rt.alloc(), &sample, used, given, want)?;
+        assert!(rt; right, "{used} on {given}");
+    }
+    Ok(())
+}
+
+/// What is wrong with a step, the step, and the expression that it doesn't follow from.
+const REFUSED: [(&str, &str, &str); 11] = [
+    ("the lesser one goes", "merge 0 - 1 0 0", "o0 o0 0.0=1.0"),
+    ("another column", "merge 0 - 0 1 0", "o0 o0 0.1=1.1"),
+    ("a later row", "merge 0 - 0 1 0", "o0 o0@1 0.0=1.0"),
+    ("the other order", "apart 0 - 1 0 1", "o0 o1 0.0=1.0"),
+    (
+        "two arguments may be equal",
+        "apart 0 - 0 1 1",
+        "o0 o1 p0=0.0 p1=1.0",
+    ),
+    (
+        "the one outside goes",
+        "alone 0 1 0 1 0",
+        "o0 p0=0.0 none( o0 p0=1.0 )",
+    ),
+    (
+        "of another table",
+        "alone 0 1 1 0 3",
+        "o0 p0=0.0 none( o0 p0=1.0 )",
+    ),
+    (
+        "named twice",
+        "inside 0 0 1 0 2",
+        "o0 none( o1 0.1=1.0 p0=1.1 )",
+    ),
+    (
+        "of another column",
+        "inside 0 0 1 0 2",
+        "o0 none( o1 0.0=1.0 )",
+    ),
+    (
+        "named by the head",
+        "lossless 0 - 1 0 2 3",
+        "o0 o1 0.1=1.0 -> 1.1",
+    ),
+    (
+        "another unique column",
+        "lossless 0 - 1 0 2 0",
+        "o0 o1 0.1=1.0 -> 0.0",
+    ),
+];
+
+#[test]
+fn other_rows_stay(rt: HostRuntime) -> Result<(), Fail> {
+    let sample = sampled_with(rt.alloc(), FACTS)?;
+    for (name, used, given) in REFUSED {
+        let answer = applied(rt.alloc(), &sample, used, given);
+        assert!(rt; matches!(answer, Err(StepFault::NoFollow)), "{name}");
+    }
+    Ok(())
+}
