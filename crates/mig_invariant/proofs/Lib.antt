@@ -1,1 +1,4 @@
+pub mod Alike
+pub mod Once
 pub mod Tables
+pub mod Viewed

@@ -5,7 +5,7 @@ ghost use Rattle.mig_schema.specs.Joins as joins;
 ghost use Rattle.mig_invariant.specs.Columns as spec;
 
 use mig_base::{Seq, number};
-use mig_schema::{ColId, Kind, Schema, columns_of};
+use mig_schema::{ColId, Kind, Schema, columns_of, kind_of, same_kind};
 use std::alloc::{AllocError, Global};
 
 /// Adds the columns of table t.
@@ -60,8 +60,5 @@ pub fn columns_within(
 pub fn is_key(schema: &Schema, column: ColId) -> bool
     ensures { result ≡ spec.is_key schema.now column }
 {
-    match columns_of(schema, column.table).get(column.column as usize) {
-        Some(found) => found.kind == Kind::Key,
-        None => false,
-    }
+    same_kind(kind_of(schema, column), Kind::Key)
 }
