@@ -1,1 +1,13 @@
+pub mod Asking
 pub mod Choices
+pub mod Completed
+pub mod Filling
+pub mod Imaging
+pub mod Labels
+pub mod Leading
+pub mod Made
+pub mod Making
+pub mod Moved
+pub mod Needs
+pub mod Options
+pub mod Values

@@ -1,4 +1,7 @@
 // Plans: functions whose statements and queries are holes, what may stand in each, and choices of it.
+ghost use Rattle.std.specs.Prelude.{◌↔◌, IsTrue};
+ghost use Rattle.mig_sketch.specs.Choices.{IsChoice, sizes_of};
+
 use mig_base::Seq;
 use mig_schema::{Function, Query, Stmt};
 
@@ -37,4 +40,26 @@ pub enum Made {
     Plan(Plan),
     Empty { function: u32 },
     Wide { function: u32 },
+}
+
+/// Whether there is one pick for each hole, in range.
+fn is_choice(holes: &[Hole], picks: &[u32]) -> bool
+    ensures { IsTrue result ↔ IsChoice (sizes_of holes.now) picks.now }
+{
+    match holes {
+        [] => picks.is_empty(),
+        [hole, more @ ..] => match picks {
+            [] => false,
+            [pick, rest @ ..] => (*pick as usize) < hole.options.len() && is_choice(more, rest),
+        },
+    }
+}
+
+impl Plan {
+    /// Whether the choice has one pick for each hole, each the number of an option that the hole has, as `fill` asks.
+    pub fn takes(&self, choice: &Choice) -> bool
+        ensures { IsTrue result ↔ IsChoice (sizes_of self.now.holes) choice.now.picks }
+    {
+        is_choice(self.holes.as_slice(), choice.picks.as_slice())
+    }
 }

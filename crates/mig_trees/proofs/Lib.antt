@@ -1,5 +1,6 @@
 pub mod AllTrees
 pub mod Covering
+pub mod Listed
 pub mod OneAnswer
 pub mod Reach
 pub mod Steps

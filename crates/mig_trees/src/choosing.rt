@@ -66,12 +66,8 @@ fn all_longer(
     Ok(list)
 }
 
-/// All sets of so many numbers of a rising pool, in order.
-pub(crate) fn choices(
-    alloc: Global,
-    count: usize,
-    pool: &[u32],
-) -> Result<Vec<Seq<u32>>, AllocError>
+/// All sets of so many numbers of a rising pool, each as the list of its members by size, in the order of these lists. The only error is want of memory.
+pub fn choices(alloc: Global, count: usize, pool: &[u32]) -> Result<Vec<Seq<u32>>, AllocError>
     ensures { IfOk result (λ v. v.items ≡ spec.choices count pool.now) }
 {
     let mut list = Vec::new(alloc);

@@ -7,5 +7,6 @@ mod laws;
 mod listing;
 mod writing;
 
-pub use laws::one_answer;
+pub use choosing::choices;
+pub use laws::{listed_joins_are_shaped, one_answer};
 pub use listing::trees;

@@ -2,6 +2,8 @@
 #![tactic(auto)]
 
 #[cfg(test)]
+mod candidate_lists;
+#[cfg(test)]
 mod choosing;
 #[cfg(test)]
 mod jobs;
@@ -9,5 +11,7 @@ mod jobs;
 mod large;
 #[cfg(test)]
 mod ranking;
+#[cfg(test)]
+mod sketching;
 #[cfg(test)]
 mod trees;
