@@ -117,6 +117,17 @@ impl Journal {
         })
     }
 
+    /// A copy of the state as it is, marked there.
+    pub(crate) fn copy(&self, alloc: Global) -> Result<Journal, AllocError>
+        ensures current { IfOk result (λ j. j.current ≡ self.now.current) }
+        ensures start { IfOk result (λ j. j.start ≡ self.now.current) }
+    {
+        Ok(Journal {
+            shelf: self.shelf.copy(alloc)?,
+            changes: Vec::new(alloc),
+        })
+    }
+
     /// A copy of each row of a table.
     pub(crate) fn rows(&self, alloc: Global, table: u32) -> Result<Seq<Placed>, AllocError>
         requires { table < length self.now.current.tables }

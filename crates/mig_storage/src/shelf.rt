@@ -8,6 +8,17 @@ use mig_schema::Schema;
 use std::alloc::{AllocError, Global};
 use std::marker::Model;
 
+/// A copy of these tables.
+fn copied(alloc: Global, tables: &[Slots]) -> Result<Vec<Slots>, AllocError>
+    ensures { IfOk result (λ v. v.items ≡ tables.now) }
+{
+    let mut copies = Vec::new(alloc);
+    for slots in tables {
+        copies.push(slots.copy(alloc)?)?;
+    }
+    Ok(copies)
+}
+
 /// The slots of each table, and the next id.
 #[derive(Debug, Drop)]
 pub(crate) struct Shelf {
@@ -46,6 +57,16 @@ impl Shelf {
             tables.push(Slots::new(alloc))?;
         }
         Ok(Shelf { tables, next: 0 })
+    }
+
+    /// A copy of all tables, with the same next id.
+    pub(crate) fn copy(&self, alloc: Global) -> Result<Shelf, AllocError>
+        ensures { IfOk result (λ s. s ≡ self.now) }
+    {
+        Ok(Shelf {
+            tables: copied(alloc, self.tables.as_slice())?,
+            next: self.next,
+        })
     }
 
     /// The next id.

@@ -1,6 +1,7 @@
 // The slots of a table in memory.
-ghost use Rattle.std.specs.Prelude.{◌≡◌, ◌⊎◌, ◌-◌, ◌<◌, [], ◌∷◌, ◌++◌, length, take, slice_index_or, OnOk, OnErr};
+ghost use Rattle.std.specs.Prelude.{◌≡◌, ◌⊎◌, ◌-◌, ◌<◌, [], ◌∷◌, ◌++◌, length, take, slice_index_or, IfOk, OnOk, OnErr};
 
+use mig_base::Exact;
 use mig_meaning::Row;
 use std::alloc::{AllocError, Global};
 use std::marker::Model;
@@ -11,6 +12,30 @@ use std::mem;
 pub(crate) struct Slot {
     pub(crate) id: u64,
     pub(crate) row: Option<Row>,
+}
+
+impl Slot {
+    /// A copy of the slot and of its row.
+    fn copy(&self, alloc: Global) -> Result<Slot, AllocError>
+        ensures { IfOk result (λ s. s ≡ self.now) }
+    {
+        let row = match &self.row {
+            Some(row) => Some(row.twin(alloc)?),
+            None => None,
+        };
+        Ok(Slot { id: self.id, row })
+    }
+}
+
+/// A copy of these slots.
+fn copied(alloc: Global, slots: &[Slot]) -> Result<Vec<Slot>, AllocError>
+    ensures { IfOk result (λ v. v.items ≡ slots.now) }
+{
+    let mut copies = Vec::new(alloc);
+    for slot in slots {
+        copies.push(slot.copy(alloc)?)?;
+    }
+    Ok(copies)
 }
 
 /// The slots of a table, in order of their ids.
@@ -42,6 +67,16 @@ impl Slots {
             items: Vec::new(alloc),
             emptied: 0,
         }
+    }
+
+    /// A copy of all slots.
+    pub(crate) fn copy(&self, alloc: Global) -> Result<Slots, AllocError>
+        ensures { IfOk result (λ s. s ≡ self.now) }
+    {
+        Ok(Slots {
+            items: copied(alloc, self.items.as_slice())?,
+            emptied: self.emptied,
+        })
     }
 
     /// All slots.

@@ -1,5 +1,5 @@
 // A store in memory.
-ghost use Rattle.std.specs.Prelude.{◌≡◌, [], false, length, Some};
+ghost use Rattle.std.specs.Prelude.{◌≡◌, [], false, length, Some, IfOk};
 ghost use Rattle.mig_storage.specs.Meaning.{FitsLayout, IsSound, Commits, TakesBack};
 ghost use Rattle.mig_storage.specs.Props.{FitsLayout-prop};
 
@@ -7,10 +7,10 @@ use crate::faults::StoreFault;
 use crate::journal::Journal;
 use crate::layouts::layout_of;
 use crate::store::Store;
-use mig_base::Seq;
+use mig_base::{Exact, Seq};
 use mig_meaning::{Placed, Row};
 use mig_schema::{Kind, Schema, Value};
-use std::alloc::Global;
+use std::alloc::{AllocError, Global};
 
 /// A store in memory, which tells its state.
 ///
@@ -43,6 +43,24 @@ impl VecStore {
             layout: Seq::new(alloc),
             begun: false,
         }
+    }
+
+    /// A store of its own with the same told state and layout, in which no transaction is begun. Its only error is want
+    /// of memory. No transaction may be begun in this one.
+    pub fn copy(&self, alloc: Global) -> Result<VecStore, AllocError>
+        requires { (⟦<VecStore as Store>⟧.meaning self.now).begun ≡ false }
+        ensures told { IfOk result (λ s. (⟦<VecStore as Store>⟧.meaning s).told ≡ (⟦<VecStore as Store>⟧.meaning self.now).told) }
+        ensures layout { IfOk result (λ s. (⟦<VecStore as Store>⟧.meaning s).layout ≡ (⟦<VecStore as Store>⟧.meaning self.now).layout) }
+        ensures rest { IfOk result (λ s. (⟦<VecStore as Store>⟧.meaning s).begun ≡ false) }
+        ensures whole { IfOk result (λ s. (⟦<VecStore as Store>⟧.meaning s).broken ≡ false) }
+        ensures faults { IfOk result (λ s. (⟦<VecStore as Store>⟧.meaning s).faults ≡ 0) }
+    {
+        Ok(VecStore {
+            alloc,
+            journal: self.journal.copy(alloc)?,
+            layout: self.layout.twin(alloc)?,
+            begun: false,
+        })
     }
 }
 

@@ -39,7 +39,7 @@ run-more schema p s k i is =
     ap₂ (λ a b. called schema p i a s ∷ run schema p (called schema p i a s).state is b) front back
 
 -- the state after one more call
-state-push : (schema : Schema) (p : Program) (s : State) (k : ℕ) (xs : List Invocation) (i : Invocation) → last_state s (run_from schema p s k (xs ++ i ∷ [])) ≡ (call_at schema p (last_state s (run_from schema p s k xs)) (k + length xs) i).state
+pub state-push : (schema : Schema) (p : Program) (s : State) (k : ℕ) (xs : List Invocation) (i : Invocation) → last_state s (run_from schema p s k (xs ++ i ∷ [])) ≡ (call_at schema p (last_state s (run_from schema p s k xs)) (k + length xs) i).state
 state-push schema p s k [] i = ap (last_state s) (run-more schema p s k i []) ∙ ap (λ n. (call_at schema p s n i).state) (omega arith)
 state-push schema p s k (x ∷ xs) i =
     let t = (call_at schema p s k x).state in
@@ -47,7 +47,7 @@ state-push schema p s k (x ∷ xs) i =
     ∙ (state-push schema p t (k + 1) xs i
     ∙ ap₂ (λ r n. (call_at schema p r n i).state) (sym (ap (last_state s) (run-more schema p s k x xs))) (omega arith))
 
-state-first : (schema : Schema) (p : Program) (calls : List Invocation) → last_state (empty_state schema) (run_from schema p (empty_state schema) 0 calls) ≡ state_after schema p calls
+pub state-first : (schema : Schema) (p : Program) (calls : List Invocation) → last_state (empty_state schema) (run_from schema p (empty_state schema) 0 calls) ≡ state_after schema p calls
 state-first schema p calls = let e : 16 * 0 ≡ 0 = omega arith in ap (λ a. last_state (empty_state schema) (run schema p (empty_state schema) calls (numbers_from a (16 * length calls)))) e
 
 pub state-more : (schema : Schema) (p : Program) (calls : List Invocation) (k : ℕ) (d : Invocation) → k < length calls → state_after schema p (take (k + 1) calls) ≡ (call_at schema p (state_after schema p (take k calls)) k (get_or calls k d)).state

@@ -20,5 +20,5 @@ pub use fields::read_value;
 pub use laws::equal_bags_have_equal_texts;
 pub use play_faults::PlayFault;
 pub use playing::play;
-pub use runs::run;
+pub use runs::{nth_call, run};
 pub use writing::{answers_text, value_text};

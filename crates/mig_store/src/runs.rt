@@ -23,8 +23,14 @@ use mig_schema::{Program, Schema};
 use mig_storage::{Store, StoreFault};
 use std::alloc::Global;
 
-/// Makes the call of this number.
-fn reply_of<S: Store>(
+/// Makes the call of this number of a run, from 0, with the sixteen keys that a run gives it: those from sixteen times
+/// the number on.
+///
+/// It is `call` of `mig_calls` for the function that the call names: where the store tells its state, the state after an
+/// Ok and the reply are the defined ones. On a fault the told state is that before, or the store is broken; `Memory` and
+/// `Failed` come as they do there. The program must be typed over the schema and its functions callable, the call be of
+/// one of them with arguments that fit, and the told next id be at most 17 for each call before.
+pub fn nth_call<S: Store>(
     alloc: Global,
     store: &mut S,
     schema: &Schema,
@@ -92,7 +98,7 @@ pub fn run<S: Store>(
     let mut list = Seq::new(alloc);
     let mut number = 0u32;
     for invocation in calls.calls.as_slice() {
-        let reply = reply_of(alloc, store, schema, program, invocation, number)?;
+        let reply = nth_call(alloc, store, schema, program, invocation, number)?;
         put_answer(&mut list, number, invocation.function, reply)?;
         number += 1;
     }

@@ -4,8 +4,8 @@ use Rattle.mig_store.proofs.RunLemmas.{call-there, next-within}
 use Rattle.mig_store.proofs.StepLemmas.{answers-more, err-holds, queries-more, told-is, told-more}
 use Rattle.mig_store.proofs.runs.run.Goals as goal
 
-pub reply_of-requires-clause-given : goal.reply_of-requires-clause-given
-reply_of-requires-clause-given g c =
+pub nth_call-requires-clause-given : goal.nth_call-requires-clause-given
+nth_call-requires-clause-given g c =
     let calls = c.args.calls.now.calls in
     let k = c.loop-invocation.invocation-index in
     let i = c.invocation-item.result in

@@ -10,7 +10,7 @@ use Rattle.mig_calls.specs.Calling.{given_by}
 use Rattle.mig_store.specs.Runs.{numbers_from}
 use Rattle.mig_store.proofs.Numbers.{numbers-different, numbers-length}
 use Rattle.mig_store.proofs.StepLemmas.{function-is}
-use Rattle.mig_store.proofs.runs.reply_of.Goals as goal
+use Rattle.mig_store.proofs.runs.nth_call.Goals as goal
 
 pub call-requires-clause-given : goal.call-requires-clause-given
 call-requires-clause-given g c =

@@ -1,0 +1,9 @@
+pub mod AfterCalls
+pub mod AllLists
+pub mod Asked
+pub mod Blamed
+pub mod Depending
+pub mod Equivalent
+pub mod Listed
+pub mod Made
+pub mod Walked
