@@ -1,5 +1,5 @@
 #!/usr/bin/env bash
-# Times `dimacs cnf` on random clauses and on a chooser's problem. Where there is clasp, it is told to decide in order and timed beside it:
+# Times `dimacs cnf` on random clauses and on a chooser's problem, and `dimacs wcnf` on the pairs of columns of a job. Where there is clasp, it is told to decide in order and timed beside it:
 # then the ratio is printed too, and whether both give the same model.
 set -eu
 cd "$(dirname "$0")/.."
@@ -46,6 +46,33 @@ chooser() {
     }'
 }
 
+# Which column goes to which, where the texts of so many tables move to one pool: the pairs of columns with their weights.
+pairs() {
+    awk -v n="$1" 'BEGIN {
+        top = 1000
+        # The pairs by the old column, then by the new one: numbers with numbers, texts with texts and with the pool.
+        for (i = 0; i < n; i++) {
+            for (j = 0; j < n; j++) take("id" i, "id" j, i == j ? 3 : -1)
+            for (j = 0; j < n; j++) take("a" i, "a" j, i == j ? 3 : -1)
+            take("a" i, "pool", -9)
+            for (j = 0; j < n; j++) take("b" i, "a" j, i == j ? -6 : -9)
+            take("b" i, "pool", -1)
+        }
+        # Each old column goes to one new one or two, and to each new one goes one.
+        for (c in from) {
+            put(from[c]); many = split(from[c], v, " ")
+            for (x = 1; x <= many; x++) for (y = x + 1; y <= many; y++) for (z = y + 1; z <= many; z++)
+                put(-v[x] " " (-v[y]) " " (-v[z]))
+        }
+        for (c in to) put(to[c])
+        print "p wcnf", vars, clauses + vars, top
+        for (k = 1; k <= clauses; k++) print top, clause[k], 0
+        for (k = 1; k <= vars; k++) print (weight[k] > 0 ? weight[k] " " k : -weight[k] " -" k), 0
+    }
+    function take(c, d, w) { vars++; from[c] = from[c] " " vars; to[d] = to[d] " " vars; weight[vars] = w }
+    function put(c) { clauses++; clause[clauses] = c }'
+}
+
 # Seconds of processor time, user and system, for one run: nine together by nine, or a single one where the first takes more than a second.
 seconds() {
     local TIMEFORMAT='%U %S' runs=1 used
@@ -89,6 +116,12 @@ compare() {
     echo
 }
 
+weigh() {
+    local ours
+    ours=$(seconds "$dimacs" wcnf)
+    printf '%-22s %-14s %9.4f s\n' "$1" "$(head -n 1 "$work/answer")" "$ours"
+}
+
 echo "problem                answer              dimacs       clasp"
 echo "p cnf 0 0" >"$work/cnf"
 compare "no clauses (starting)"
@@ -101,4 +134,8 @@ done
 for seed in 1 2 3; do
     chooser "$seed" >"$work/cnf"
     compare "chooser, seed $seed"
+done
+for n in 4 6 8; do
+    pairs "$n" >"$work/cnf"
+    weigh "pairs of $n tables"
 done

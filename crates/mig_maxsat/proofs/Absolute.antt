@@ -1,5 +1,5 @@
 -- Absolute values.
-use Rattle.std.proofs.Common.{◌≡◌, ℕ, ◌+◌, ◌≤◌, ◌≤ℤ◌, ◌+ℤ◌, neg_ℤ, ℤ, pos, negsuc, true, int_le, arith}
+use Rattle.std.proofs.Common.{◌≡◌, ℕ, ◌+◌, ◌≤◌, ◌≤ℤ◌, ◌<ℤ◌, ◌+ℤ◌, neg_ℤ, ℤ, pos, negsuc, true, false, int_le, arith}
 use Rattle.std.proofs.lemmas.Int.{ints}
 use Rattle.std.specs.Int.RustNames.{unsigned_abs}
 
@@ -36,3 +36,7 @@ abs_raised w k least most =
 -- what the test says
 pub le_from : (a b : ℤ) → int_le a b ≡ true → a ≤ℤ b
 le_from a b t = grind (arith, ints)
+
+-- and where it fails
+pub lt_from : (a b : ℤ) → int_le a b ≡ false → b <ℤ a
+lt_from a b t = grind (arith, ints)

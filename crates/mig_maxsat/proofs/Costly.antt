@@ -1,6 +1,6 @@
 -- Numbers that pass a test, and the most that variables can weigh, one at a time.
-use Rattle.std.proofs.Common.{◌≡◌, ℕ, ◌+◌, ◌<◌, ◌<ℤ◌, ◌-ℤ◌, ◌+ℤ◌, ℤ, pos, Bool, true, false, List, [], ◌∷◌, ◌++◌, length, take, get_or, int_le, refl, ap, sym, ◌∙◌, subst, arith, suc, zero}
-use Rattle.std.specs.Prelude.{filter, MatchBool}
+use Rattle.std.proofs.Common.{◌≡◌, ℕ, ◌+◌, ◌<◌, ◌+ℤ◌, ℤ, pos, Bool, true, false, List, [], ◌∷◌, ◌++◌, length, take, get_or, refl, ap, sym, ◌∙◌, subst, arith, suc, zero}
+use Rattle.std.specs.Prelude.{filter}
 use Rattle.std.specs.List.{range_with_len}
 use Rattle.std.proofs.lemmas.Int.{ints}
 use Rattle.std.proofs.lemmas.List.{append-nil}
@@ -65,16 +65,3 @@ most_is_on steps ws i s r t lt se re te =
     let count : suc i ≡ i + 1 = omega arith in
     let more = subst (λ (u : ℕ). most_from steps 0 (take (suc i) ws) ≡ (most_from steps 0 (take i ws) +ℤ most_at (value_at u steps) (get_or ws i (pos 0)))) first (most_next steps 0 ws i (pos 0) lt) in
     te ∙ (ap (λ x. x +ℤ r) se ∙ (ap (λ x. most_from steps 0 (take i ws) +ℤ x) re ∙ (sym more ∙ ap (λ k. most_from steps 0 (take k ws)) count)))
-
--- what the test says where it fails
-pub lt_from : (a b : ℤ) → int_le a b ≡ false → b <ℤ a
-lt_from a b t = grind (arith, ints)
-
--- there is room where the bound is above what was found
-pub room_above : (most held lost wm most' : ℤ) → lost <ℤ (most -ℤ held) → held ≡ wm → most ≡ most' → (wm +ℤ lost) <ℤ most'
-room_above most held lost wm most' lt a b = omega (arith, ints, lt, a, b)
-
--- one of two, as the test says
-pub either_way : (b : Bool) (P Q : Type 0) → (b ≡ true → P) → (b ≡ false → Q) → MatchBool b P Q
-either_way true P Q this other = this refl
-either_way false P Q this other = other refl

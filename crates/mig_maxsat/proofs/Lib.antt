@@ -4,6 +4,7 @@ pub mod Costly
 pub mod Exact
 pub mod Leaving
 pub mod Paying
+pub mod Reaching
 pub mod Rivalry
 pub mod Unique
 pub mod Weights

@@ -138,8 +138,8 @@ cost_fits ws v cost lt fits least most =
     let ge = ge_abs (get_or ws v (pos 0)) in
     fits_signed_from_abs w64 (get_or ws v (pos 0) +ℤ cost) (omega (arith, abs_le (get_or ws v (pos 0) +ℤ cost) (2 ^ 62 + 2 ^ 62 - 1) (omega (arith, ints, le, small, fits, most)) (omega (arith, ints, ge, small, fits, least))))
 
--- two weights below 2^62 in size, one less the other
-pub less_fits : (a b : ℤ) → unsigned_abs a < 2 ^ 62 → unsigned_abs b < 2 ^ 62 → FitsSigned w64 (a -ℤ b)
+-- a weight below 2^62 in size, less another that is no greater than that
+pub less_fits : (a b : ℤ) → unsigned_abs a < 2 ^ 62 → unsigned_abs b ≤ 2 ^ 62 → FitsSigned w64 (a -ℤ b)
 less_fits a b ha hb =
     let a_le = le_abs a in
     let a_ge = ge_abs a in

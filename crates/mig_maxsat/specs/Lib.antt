@@ -2,3 +2,4 @@ pub mod Bounds
 pub mod Heaviest
 pub mod Losses
 pub mod Rivals
+pub mod Scouting

@@ -3,13 +3,11 @@ use Rattle.std.specs.Prelude.{◌≡◌, ◌⊎◌, ℕ, ◌+◌, ◌^◌, ◌�
 use Rattle.std.specs.Int.{w64}
 use Rattle.std.specs.List.{list_all, range_with_len}
 use Rattle.mig_sat.specs.declared.clauses.SatLit.{SatLit}
-use Rattle.mig_sat.specs.declared.clauses.Model.{Model}
 use Rattle.mig_sat.specs.declared.steps.Step.{Step}
 use Rattle.mig_sat.specs.declared.steps.Found.{Found}
 use Rattle.mig_sat.specs.declared.steps.Found.TheVariants.{Conflict, Forced, Free, Full}
 use Rattle.mig_sat.specs.Steps.{value_at, IsFalse, IsNotFalse}
 use Rattle.mig_maxsat.specs.declared.weighted.Weighted.{Weighted}
-use Rattle.mig_maxsat.specs.Heaviest.{weight}
 use Rattle.mig_maxsat.specs.Bounds.{weight_of, CostsLit, ArePaid}
 
 -- whether the literal is positive, and its variable of negative weight
@@ -80,17 +78,17 @@ abbrev pub most_from : List Step → ℕ → List ℤ → ℤ
 most_from steps v [] = pos 0
 most_from steps v (w ∷ ws) = most_at (value_at v steps) w +ℤ most_from steps (v + 1) ws
 
--- where the clauses of these numbers are charged, the most that is left, less what is lost, is more than this model weighs
-pub record LeavesRoom (p : Weighted) (held : Model) (numbers : List ℕ) (steps : List Step) : Type 0 where
+-- where the clauses of these numbers are charged, the most that is left, less what is lost, is more than the floor
+pub record LeavesRoom (p : Weighted) (floor : ℤ) (numbers : List ℕ) (steps : List Step) : Type 0 where
   pub weights : List ℤ
   pub lost : ℤ
   pub charged : AreCharged p.hard.clauses steps numbers p.weights (pos 0) weights lost
-  pub above : (weight p.weights held.values +ℤ lost) <ℤ most_from steps 0 weights
+  pub above : (floor +ℤ lost) <ℤ most_from steps 0 weights
 
--- there is room for a model that weighs more than the one found, if one was found
-abbrev pub HasRoom : Weighted → Option Model → List ℕ → List Step → Type 0
+-- there is room for a model that weighs more than the floor, if there is a floor
+abbrev pub HasRoom : Weighted → (floor : Option ℤ) → List ℕ → List Step → Type 0
 HasRoom p None numbers steps = Unit {0}
-HasRoom p (Some held) numbers steps = LeavesRoom p held numbers steps
+HasRoom p (Some floor) numbers steps = LeavesRoom p floor numbers steps
 
 -- so it is where a free variable was found
 abbrev pub OnFree : Found → Type 0 → Type 0

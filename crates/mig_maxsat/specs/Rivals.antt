@@ -1,5 +1,6 @@
--- The heaviest model found so far, and the models that are heavier.
-use Rattle.std.specs.Prelude.{◌≡◌, ◌⊎◌, ◌<ℤ◌, ◌≤ℤ◌, ℤ, Bool, List, Option, Some, None, length}
+-- What a search holds so far, and the models that are heavier.
+use Rattle.std.specs.Prelude.{◌≡◌, ◌⊎◌, ◌≤◌, ◌^◌, ◌<ℤ◌, ◌≤ℤ◌, ℤ, Bool, List, Option, Some, None, IfSome}
+use Rattle.std.specs.Int.RustNames.{unsigned_abs}
 use Rattle.mig_sat.specs.declared.clauses.Model.{Model}
 use Rattle.mig_sat.specs.declared.steps.Step.{Step}
 use Rattle.mig_sat.specs.declared.steps.Found.{Found}
@@ -8,36 +9,39 @@ use Rattle.mig_sat.specs.Models.{IsModel, IsBefore}
 use Rattle.mig_sat.specs.Steps.{IsRight, IsRefuted}
 use Rattle.mig_sat.specs.Found.{IsFound}
 use Rattle.mig_maxsat.specs.declared.weighted.Weighted.{Weighted}
+use Rattle.mig_maxsat.specs.declared.keeping.Held.{Held}
 use Rattle.mig_maxsat.specs.Heaviest.{weight}
 
--- it weighs more than the one found, if there is one
-abbrev pub Beats : List ℤ → Option Model → List Bool → Type 0
-Beats ws None o = Unit {0}
-Beats ws (Some b) o = weight ws b.values <ℤ weight ws o
+-- it is more than the floor, if there is a floor
+abbrev pub IsAbove : (floor : Option ℤ) → ℤ → Type 0
+IsAbove None w = Unit {0}
+IsAbove (Some k) w = k <ℤ w
 
--- a model that weighs more than the one found
-pub record IsRival (p : Weighted) (found : Option Model) (o : List Bool) : Type 0 where
+-- the floor is at most 2^62 in size
+abbrev pub IsFloor : Option ℤ → Type 0
+IsFloor floor = IfSome floor (λ k. unsigned_abs k ≤ 2 ^ 62)
+
+-- a model that weighs more than the floor
+pub record IsRival (p : Weighted) (floor : Option ℤ) (o : List Bool) : Type 0 where
   pub model : IsModel p.hard o
-  pub beats : Beats p.weights found o
+  pub above : IsAbove floor (weight p.weights o)
 
--- the one found has a value for each variable
-abbrev pub IsFoundSized : Weighted → Option Model → Type 0
-IsFoundSized p None = Unit {0}
-IsFoundSized p (Some b) = length b.values ≡ p.hard.vars
+-- nothing was found above this floor; or a model that weighs as much, and models before it weigh less
+abbrev pub IsFoundAbove : Weighted → (start floor : Option ℤ) → Option Model → Type 0
+IsFoundAbove p start floor None = floor ≡ start
+IsFoundAbove p start floor (Some b) = (floor ≡ Some (weight p.weights b.values)) × IsModel p.hard b.values × ((o : List Bool) → IsModel p.hard o → weight p.weights b.values ≤ℤ weight p.weights o → IsBefore o b.values → ⊥)
 
--- the one found is a model, and models before it weigh less
-abbrev pub IsFoundRight : Weighted → Option Model → Type 0
-IsFoundRight p None = Unit {0}
-IsFoundRight p (Some b) = IsModel p.hard b.values × ((o : List Bool) → IsModel p.hard o → weight p.weights b.values ≤ℤ weight p.weights o → IsBefore o b.values → ⊥)
+-- so it is with what is held, where the search began above this floor
+abbrev pub IsHeld : Weighted → (start : Option ℤ) → Held → Type 0
+IsHeld p start held = IsFoundAbove p start held.floor held.model
 
--- the model where it beats the one found, else the one found
-abbrev pub IsBetter : List ℤ → Option Model → Model → Model → Type 0
-IsBetter ws None model result = result ≡ model
-IsBetter ws (Some b) model result = ((result ≡ model) × (weight ws b.values <ℤ weight ws model.values)) ⊎ ((result ≡ b) × (weight ws model.values ≤ℤ weight ws b.values))
+-- the model and what it weighs, where that is above the floor; else what was held
+abbrev pub IsBetter : List ℤ → Held → Model → Held → Type 0
+IsBetter ws old model new = (IsAbove old.floor (weight ws model.values) × (new ≡ record { floor = Some (weight ws model.values); model = Some model })) ⊎ ((IsAbove old.floor (weight ws model.values) → ⊥) × (new ≡ old))
 
 -- what holds once the steps and what was found under them have been seen
-pub record IsSettled (p : Weighted) (found : Option Model) (steps : List Step) (seen : Found) : Type 0 where
-  pub right : IsRight p.hard.vars (IsRival p found) steps
-  pub so : IsFound p.hard.clauses p.hard.vars (IsRival p found) steps seen
-  pub full : seen ≡ Full → IsRefuted (IsRival p found) steps
-  pub kept : IsFoundRight p found
+pub record IsSettled (p : Weighted) (old new : Held) (steps : List Step) (seen : Found) : Type 0 where
+  pub right : IsRight p.hard.vars (IsRival p new.floor) steps
+  pub so : IsFound p.hard.clauses p.hard.vars (IsRival p new.floor) steps seen
+  pub full : seen ≡ Full → IsRefuted (IsRival p new.floor) steps
+  pub kept : (start : Option ℤ) → IsHeld p start old → IsHeld p start new

@@ -1,16 +1,16 @@
-// Steps that no model follows which weighs more than the one found.
+// Steps that no model follows which weighs more than the floor.
 ghost use Rattle.std.specs.Prelude.{◌≡◌, ◌⊎◌, IfOk, IfSome, MatchBool, length};
 ghost use Rattle.std.specs.List.{list_all};
 ghost use Rattle.mig_maxsat.specs.Heaviest.{IsSound};
-ghost use Rattle.mig_maxsat.specs.Rivals.{IsRival, IsFoundSized};
+ghost use Rattle.mig_maxsat.specs.Rivals.{IsRival, IsFloor};
 ghost use Rattle.mig_maxsat.specs.Losses.{is_costly_lit, costly_numbers, HasRoom, OnFree};
 ghost use Rattle.mig_sat.specs.Found.{IsFound, IsUnfollowed};
 ghost use Rattle.mig_sat.specs.Agendas.{IsThrough, StopsAt};
 
 use crate::charging::charged;
-use crate::weighing::{most, weigh};
+use crate::weighing::most;
 use crate::weighted::Weighted;
-use mig_sat::{Agenda, Found, Model, SatLit, Trail, look};
+use mig_sat::{Agenda, Found, SatLit, Trail, look};
 use std::alloc::{AllocError, Global};
 
 /// Whether the literal is positive, and its variable of negative weight.
@@ -45,52 +45,51 @@ pub fn costly(alloc: Global, problem: &Weighted) -> Result<Vec<usize>, AllocErro
     Ok(numbers)
 }
 
-/// Whether the bound shows that no model follows the steps and weighs more than the one found.
+/// Whether the bound shows that no model follows the steps and weighs more than the floor.
 fn is_hopeless(
     alloc: Global,
     problem: &Weighted,
     costly: &[usize],
-    found: &Option<Model>,
+    floor: Option<i64>,
     trail: &Trail,
 ) -> Result<bool, AllocError>
     requires sound { IsSound problem.now }
     requires size { trail.now.size ≡ problem.now.hard.vars }
-    requires found { IsFoundSized problem.now found.now }
-    ensures { IfOk result (λ hopeless. MatchBool hopeless (IsUnfollowed (IsRival problem.now found.now) trail.now.steps) (HasRoom problem.now found.now costly.now trail.now.steps)) }
+    requires floor { IsFloor floor }
+    ensures { IfOk result (λ hopeless. MatchBool hopeless (IsUnfollowed (IsRival problem.now floor) trail.now.steps) (HasRoom problem.now floor costly.now trail.now.steps)) }
 {
-    match found {
+    match floor {
         None => Ok(false),
-        Some(model) => {
-            let held = weigh(problem.weights.as_slice(), model.values.as_slice());
+        Some(floor) => {
             let charged = charged(alloc, problem, costly, trail)?;
             let most = most(charged.weights.as_slice(), problem.hard.vars, trail);
-            Ok(most - held <= charged.lost)
+            Ok(most - floor <= charged.lost)
         }
     }
 }
 
-/// What `look` finds, and a conflict in place of a free variable where the steps are hopeless. `costly` has the numbers
-/// of the clauses that cost something.
+/// What `look` finds, and a conflict in place of a free variable where no model that follows the steps weighs more than the floor.
+/// `costly` has the numbers of the clauses that cost something.
 pub fn look_ahead(
     alloc: Global,
     problem: &Weighted,
     costly: &[usize],
-    found: &Option<Model>,
+    floor: Option<i64>,
     agenda: &mut Agenda,
     trail: &Trail,
 ) -> Result<Found, AllocError>
     requires sound { IsSound problem.now }
     requires size { trail.now.size ≡ problem.now.hard.vars }
     requires numbers { costly.now ≡ costly_numbers problem.now }
-    requires found { IsFoundSized problem.now found.now }
-    ensures found { IfOk result (λ seen. IsFound problem.now.hard.clauses problem.now.hard.vars (IsRival problem.now found.now) trail.now.steps seen) }
-    ensures room { IfOk result (λ seen. OnFree seen (HasRoom problem.now found.now costly.now trail.now.steps)) }
+    requires floor { IsFloor floor }
+    ensures found { IfOk result (λ seen. IsFound problem.now.hard.clauses problem.now.hard.vars (IsRival problem.now floor) trail.now.steps seen) }
+    ensures room { IfOk result (λ seen. OnFree seen (HasRoom problem.now floor costly.now trail.now.steps)) }
     ensures lists { agenda.new.lists.items ≡ agenda.old.lists.items }
     ensures heeded { IfOk result (λ seen. IsThrough problem.now.hard.clauses agenda.old trail.now.steps ⊎ StopsAt problem.now.hard.clauses agenda.old agenda.new trail.now.steps seen) }
 {
     match look(&problem.hard, agenda, trail) {
         Found::Free(var) => {
-            if is_hopeless(alloc, problem, costly, found, trail)? {
+            if is_hopeless(alloc, problem, costly, floor, trail)? {
                 Ok(Found::Conflict)
             } else {
                 Ok(Found::Free(var))

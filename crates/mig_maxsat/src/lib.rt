@@ -6,6 +6,7 @@ mod heaviest;
 mod hopeless;
 mod keeping;
 mod laws;
+mod scouting;
 mod weighing;
 mod weighted;
 

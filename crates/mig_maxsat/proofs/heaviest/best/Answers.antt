@@ -1,55 +1,15 @@
-use Rattle.std.proofs.Common.{◌≡◌, ◌≤◌, Some, None, [], length, sym, subst, arith}
-use Rattle.std.proofs.lemmas.Bool.{MatchBool-at_true, MatchBool-at_false}
-use Rattle.mig_sat.specs.Steps.{IsRight}
-use Rattle.mig_sat.specs.Found.{advanced}
-use Rattle.mig_sat.proofs.Heeding.{IsHeeded, heeded_first, heeded_advanced}
-use Rattle.mig_sat.proofs.Progress.{none_advanced, right_advanced, work-advanced}
+-- Where no model weighs as much as was reached there is none.
+use Rattle.std.proofs.Common.{List, Bool, Option, ℤ, subst}
+use Rattle.std.specs.Prelude.{IfNone}
+use Rattle.std.proofs.lemmas.Result.{IfOk-weaker}
+use Rattle.mig_sat.specs.Models.{HasNoModel}
 use Rattle.mig_maxsat.specs.Rivals.{IsRival}
-use Rattle.mig_maxsat.proofs.Rivalry.{answer_some, answer_none}
+use Rattle.mig_maxsat.proofs.Reaching.{none_reached}
 use Rattle.mig_maxsat.proofs.heaviest.best.Goals as goal
 
-pub returns-then-not-branch-clause-heaviest : goal.returns-then-not-branch-clause-heaviest
-returns-then-not-branch-clause-heaviest c =
+pub returns-clause-none : goal.returns-clause-none
+returns-clause-none c =
     let p = c.args.problem.now in
-    let settled = c.in_ok-found.ensures in
-    let none : advanced c.in_ok-seen.seen c.loop-found.trail.steps ≡ None = MatchBool-at_false (advanced c.in_ok-seen.seen c.loop-found.trail.steps ≡ Some c.advance.new.trail.steps) (advanced c.in_ok-seen.seen c.loop-found.trail.steps ≡ None) c.if-not-branch.true c.in_ok-advance.ensures.on in
-    answer_some p c.in_ok-found.found settled.kept (none_advanced p.hard.clauses p.hard.vars (IsRival p c.in_ok-found.found) c.loop-found.trail.steps c.in_ok-seen.seen settled.right settled.so settled.full none)
-
-pub returns-then-not-branch-clause-none : goal.returns-then-not-branch-clause-none
-returns-then-not-branch-clause-none c =
-    let p = c.args.problem.now in
-    let settled = c.in_ok-found.ensures in
-    let none : advanced c.in_ok-seen.seen c.loop-found.trail.steps ≡ None = MatchBool-at_false (advanced c.in_ok-seen.seen c.loop-found.trail.steps ≡ Some c.advance.new.trail.steps) (advanced c.in_ok-seen.seen c.loop-found.trail.steps ≡ None) c.if-not-branch.true c.in_ok-advance.ensures.on in
-    answer_none p c.in_ok-found.found (none_advanced p.hard.clauses p.hard.vars (IsRival p c.in_ok-found.found) c.loop-found.trail.steps c.in_ok-seen.seen settled.right settled.so settled.full none)
-
-pub loop-found-smaller : goal.loop-found-smaller
-loop-found-smaller c =
-    let room : length c.advance.new.trail.steps ≤ c.args.problem.now.hard.vars = omega (arith, c.len.ensures.is, c.len.ensures.most, c.in_ok-advance.ensures.size, c.loop-found.invariant.size) in
-    let some : advanced c.in_ok-seen.seen c.loop-found.trail.steps ≡ Some c.advance.new.trail.steps = MatchBool-at_true (advanced c.in_ok-seen.seen c.loop-found.trail.steps ≡ Some c.advance.new.trail.steps) (advanced c.in_ok-seen.seen c.loop-found.trail.steps ≡ None) c.if-not-branch.false c.in_ok-advance.ensures.on in
-    work-advanced c.args.problem.now.hard.vars c.loop-found.trail.steps c.advance.new.trail.steps c.in_ok-seen.seen c.loop-found.invariant.room room some
-
-pub loop-found-init : goal.loop-found-init
-loop-found-init c =
-    let p = c.args.problem.now in
-    let steps : c.in_ok-trail.trail.steps ≡ [] = c.in_ok-trail.ensures.1 in
-    record {
-      size = c.in_ok-trail.ensures.0;
-      room = rw steps (omega arith);
-      right = subst (IsRight p.hard.vars (IsRival p None)) (sym steps) tt;
-      kept = tt;
-      heeded = subst (IsHeeded p.hard c.in_ok-agenda.agenda) (sym steps) (heeded_first p.hard c.in_ok-agenda.agenda c.in_ok-agenda.ensures.count c.in_ok-agenda.ensures.lists c.in_ok-agenda.ensures.all);
-    }
-
-pub loop-found-preserved : goal.loop-found-preserved
-loop-found-preserved c =
-    let p = c.args.problem.now in
-    let settled = c.in_ok-found.ensures in
-    let some : advanced c.in_ok-seen.seen c.loop-found.trail.steps ≡ Some c.advance.new.trail.steps = MatchBool-at_true (advanced c.in_ok-seen.seen c.loop-found.trail.steps ≡ Some c.advance.new.trail.steps) (advanced c.in_ok-seen.seen c.loop-found.trail.steps ≡ None) c.if-not-branch.false c.in_ok-advance.ensures.on in
-    let right = right_advanced p.hard.clauses p.hard.vars (IsRival p c.in_ok-found.found) c.loop-found.trail.steps c.advance.new.trail.steps c.in_ok-seen.seen settled.right settled.so settled.full some in
-    record {
-      size = omega (arith, c.in_ok-advance.ensures.size, c.loop-found.invariant.size);
-      room = omega (arith, c.len.ensures.is, c.len.ensures.most, c.in_ok-advance.ensures.size, c.loop-found.invariant.size);
-      right = right;
-      kept = settled.kept;
-      heeded = heeded_advanced p.hard (IsRival p c.in_ok-found.found) c.loop-found.agenda c.look_ahead.new.agenda c.shorten.new.self c.len.result c.loop-found.trail.steps c.advance.new.trail.steps c.in_ok-seen.seen c.loop-found.invariant.heeded c.look_ahead.ensures.lists c.in_ok-seen.ensures.heeded some right c.shorten.ensures.lists (sym c.len.ensures.is) c.shorten.ensures.pending;
-    }
+    IfOk-weaker c.heaviest_above.result (λ o. IfNone o ((m : List Bool) → IsRival p c.below.result m → ⊥)) (λ o. IfNone o (HasNoModel p.hard))
+    (λ o none. none_reached p c.in_ok-reached.reached o c.in_ok-reached.ensures.reached (subst (λ (k : Option ℤ). IfNone o ((m : List Bool) → IsRival p k m → ⊥)) c.below.ensures.less none))
+    c.heaviest_above.ensures.none
