@@ -12,7 +12,7 @@ use Rattle.mig_schema.specs.Columns.{has_column, same_col}
 use Rattle.mig_meaning.specs.Lists.{In}
 use Rattle.mig_algebra.specs.declared.atoms.Atom.{Atom}
 use Rattle.mig_algebra.specs.Obligations.{scalar_atom}
-use Rattle.mig_unfolding.specs.Unfolding.{written_atom}
+use Rattle.mig_unfolding.specs.Unfolding.{class_atom}
 use Rattle.mig_cli.specs.Renaming.{assign_to, value_at, origin, renamed_value}
 use Rattle.mig_cli.proofs.Passing.{found-passes, found-in, one-found}
 use Rattle.mig_cli.proofs.OneTable.{same-column}
@@ -39,30 +39,30 @@ value-there s f values v c k =
     }
 
 -- what is written is the value of the first assignment
-written-found : (values : List Assign) (c : ColId) (a : Assign) → assign_to values c ≡ Some a → written_atom values c ≡ scalar_atom a.value
+written-found : (values : List Assign) (c : ColId) (a : Assign) → assign_to values c ≡ Some a → class_atom [] values c ≡ scalar_atom a.value
 written-found [] c a e = absurd cc
 written-found (b ∷ bs) c a e = go (cases_Bool (same_col b.column c)) (written-found bs c a)
   where
-    go : (same_col b.column c ≡ true) ⊎ (same_col b.column c ≡ false) → (assign_to bs c ≡ Some a → written_atom bs c ≡ scalar_atom a.value) → written_atom (b ∷ bs) c ≡ scalar_atom a.value
+    go : (same_col b.column c ≡ true) ⊎ (same_col b.column c ≡ false) → (assign_to bs c ≡ Some a → class_atom [] bs c ≡ scalar_atom a.value) → class_atom [] (b ∷ bs) c ≡ scalar_atom a.value
     go (inl t) next =
         let s = cond-true (same_col b.column c) (Some b) (assign_to bs c) t in
         let i : b ≡ a = cc in
-        cond-true (same_col b.column c) (scalar_atom b.value) (written_atom bs c) t ∙ ap (λ (x : Assign). scalar_atom x.value) i
-    go (inr f) next = cond-false (same_col b.column c) (scalar_atom b.value) (written_atom bs c) f ∙ next (sym (cond-false (same_col b.column c) (Some b) (assign_to bs c) f) ∙ e)
+        cond-true (same_col b.column c) (scalar_atom b.value) (class_atom [] bs c) t ∙ ap (λ (x : Assign). scalar_atom x.value) i
+    go (inr f) next = cond-false (same_col b.column c) (scalar_atom b.value) (class_atom [] bs c) f ∙ next (sym (cond-false (same_col b.column c) (Some b) (assign_to bs c) f) ∙ e)
 
 -- an old column is written its value
-pub old-written : (values : List Assign) (c : ColId) → IsValueAt values c → written_atom values c ≡ scalar_atom (value_at values c)
+pub old-written : (values : List Assign) (c : ColId) → IsValueAt values c → class_atom [] values c ≡ scalar_atom (value_at values c)
 old-written values c i = written-found values c i.assign i.found ∙ ap scalar_atom (sym i.value)
 
 -- a new column is written the value of its origin
 pub new-written : (hints : List Hint) (values : List Assign) (ds : List ColId) (d : ColId) → list_any (λ e. same_col e d) ds ≡ true
-    → written_atom (map (renamed_value hints values) ds) d ≡ scalar_atom (value_at values (origin hints d))
+    → class_atom [] (map (renamed_value hints values) ds) d ≡ scalar_atom (value_at values (origin hints d))
 new-written hints values [] d h = absurd cc
 new-written hints values (e ∷ es) d h = go (cases_Bool (same_col e d)) (new-written hints values es d)
   where
     rest : Atom
-    rest = written_atom (map (renamed_value hints values) es) d
+    rest = class_atom [] (map (renamed_value hints values) es) d
 
-    go : (same_col e d ≡ true) ⊎ (same_col e d ≡ false) → (list_any (λ b. same_col b d) es ≡ true → rest ≡ scalar_atom (value_at values (origin hints d))) → written_atom (map (renamed_value hints values) (e ∷ es)) d ≡ scalar_atom (value_at values (origin hints d))
+    go : (same_col e d ≡ true) ⊎ (same_col e d ≡ false) → (list_any (λ b. same_col b d) es ≡ true → rest ≡ scalar_atom (value_at values (origin hints d))) → class_atom [] (map (renamed_value hints values) (e ∷ es)) d ≡ scalar_atom (value_at values (origin hints d))
     go (inl t) next = cond-true (same_col e d) (scalar_atom (value_at values (origin hints e))) rest t ∙ ap (λ b. scalar_atom (value_at values (origin hints b))) (same-column e d t)
     go (inr f) next = cond-false (same_col e d) (scalar_atom (value_at values (origin hints e))) rest f ∙ next (sym (ap (λ b. b || list_any (λ x. same_col x d) es) f) ∙ h)

@@ -1,48 +1,36 @@
--- A variable of a term is folded by a view. The arguments: the invariant, which is a view, and the variable.
-use Rattle.std.specs.Prelude.{ℕ, ◌+◌, ◌==◌, Bool, true, false, ◌&&◌, List, [], ◌∷◌, length, slice_get, Option, Some, None}
-use Rattle.std.specs.Option.{option_and_then}
-use Rattle.mig_schema.specs.declared.faults.Side.TheVariants.{Old}
+-- Variables of a term are folded by a view. The arguments: the invariant, which is a view, and the variables for the tables of its old side, in order.
+use Rattle.std.specs.Prelude.{ℕ, List, [], ◌∷◌, slice_get, Option, None}
+use Rattle.std.specs.Option.{option_map, option_and_then}
+use Rattle.mig_meaning.specs.declared.relating.View.{View}
 use Rattle.mig_meaning.specs.declared.relating.Invariant.{Invariant}
 use Rattle.mig_meaning.specs.declared.relating.Invariant.TheVariants.{Views, Unique, Apart, Within}
-use Rattle.mig_algebra.specs.declared.atoms.Var.{Var}
 use Rattle.mig_algebra.specs.declared.terms.Term.{Term}
-use Rattle.mig_algebra.specs.Proper.{same_side}
-use Rattle.mig_listing.specs.Chosen.{chosen}
+use Rattle.mig_replacing.specs.Given.{plain}
 use Rattle.mig_folding.specs.Folding.{fold_of}
+use Rattle.mig_folding.specs.Naming.{Host, host_args}
 
--- folds variable x by an invariant, which is a view
-abbrev pub by_fold : ℕ → Term → Invariant → Option (List Term)
-by_fold x t (Views source target) = option_and_then (λ (v : Var). fold_of source target x v t) (slice_get t.vars x)
-by_fold x t (Unique side column) = None
-by_fold x t (Apart side left right) = None
-by_fold x t (Within side left right) = None
+-- folds variables by a view
+abbrev pub by_views : List ℕ → Term → (source target : View) → Option (List Term)
+by_views xs t source target = option_map (λ u. u ∷ []) (fold_of source target xs t)
+
+-- by an invariant, which has to be a view
+abbrev pub by_fold : List ℕ → Term → Invariant → Option (List Term)
+by_fold xs t (Views source target) = by_views xs t source target
+by_fold xs t (Unique side column) = None
+by_fold xs t (Apart side left right) = None
+by_fold xs t (Within side left right) = None
 
 -- the rule
 abbrev pub fold : List Invariant → List ℕ → Term → Option (List Term)
-fold invs (k ∷ (x ∷ [])) t = option_and_then (by_fold x t) (slice_get invs k)
-fold invs args t = None
+fold invs (k ∷ xs) t = option_and_then (by_fold xs t) (slice_get invs k)
+fold invs [] t = None
 
 -- ---- what is tried
 
--- whether an invariant is there, and is a view
-abbrev pub is_view : Option Invariant → Bool
-is_view None = false
-is_view (Some (Views source target)) = true
-is_view (Some (Unique side column)) = false
-is_view (Some (Apart side left right)) = false
-is_view (Some (Within side left right)) = false
+-- a term as a host
+abbrev pub term_host : Term → Host
+term_host t = record { base = 0; vars = t.vars; scope = t.vars; known = plain t.lits }
 
--- whether a variable is there, of the old rows from before the call
-abbrev pub is_old_start : Option Var → Bool
-is_old_start None = false
-is_old_start (Some v) = same_side v.side Old && v.stage == 0
-
--- whether a view may stand first, and one of the term's variables of the old rows second
-abbrev pub may_fold : List Invariant → List Var → List ℕ → Bool
-may_fold invs vars (k ∷ []) = is_view (slice_get invs k)
-may_fold invs vars (k ∷ (x ∷ [])) = is_old_start (slice_get vars x)
-may_fold invs vars args = false
-
--- the views, each with each of the term's variables of the old rows
+-- the views, each with the variables of the term that may stand for its old side's tables
 abbrev pub fold_args : List Invariant → Term → List (List ℕ)
-fold_args invs t = chosen (may_fold invs t.vars) (length invs + length t.vars) 2 []
+fold_args invs t = host_args invs (term_host t)

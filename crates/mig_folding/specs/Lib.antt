@@ -1,2 +1,9 @@
 pub mod Folding
+pub mod Foldins
 pub mod Folds
+pub mod Found
+pub mod FoundWorked
+pub mod Known
+pub mod Naming
+pub mod Worked
+pub mod Writing

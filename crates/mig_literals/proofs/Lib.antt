@@ -2,7 +2,6 @@ pub mod DeadSound
 pub mod Differing
 pub mod ImpliedSound
 pub mod LiftedSound
-pub mod NeverSound
 pub mod RejoinRows
 pub mod RejoinedSound
 pub mod RejoinedTried

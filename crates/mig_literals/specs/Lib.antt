@@ -1,7 +1,6 @@
 pub mod Dead
 pub mod Implied
 pub mod Lifted
-pub mod Never
 pub mod Rejoined
 pub mod Same
 pub mod Split

@@ -11,7 +11,6 @@ ghost use Rattle.mig_literals.specs.Same.{same};
 ghost use Rattle.mig_literals.specs.Implied.{implied};
 ghost use Rattle.mig_literals.specs.Lifted.{lifted};
 ghost use Rattle.mig_literals.specs.Split.{split};
-ghost use Rattle.mig_literals.specs.Never.{never};
 ghost use Rattle.mig_literals.specs.Rejoined.{rejoined, rejoin_args};
 
 /// A term that contradicts itself may go.
@@ -37,11 +36,6 @@ pub fn lift_is_sound()
 /// A body without variables that is not held may become one alternative for each of its literals.
 pub fn split_is_sound()
     ensures { (p : Sides) (invs : List Invariant) → IsSoundAtLiterals p invs split }
-{}
-
-/// A body that is never met may be decided.
-pub fn never_is_sound()
-    ensures { (p : Sides) (invs : List Invariant) → IsSoundAtLiterals p invs never }
 {}
 
 /// Two terms that differ in a literal and its complement may become one.

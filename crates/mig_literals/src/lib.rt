@@ -6,7 +6,6 @@ mod implying;
 mod joints;
 mod laws;
 mod lifting;
-mod refuting;
 mod rejoining;
 mod settling;
 mod splitting;
@@ -15,11 +14,10 @@ pub use dying::Dying;
 pub use implying::Implying;
 pub use joints::rejoin_args;
 pub use laws::{
-    dead_is_sound, implied_is_sound, lift_is_sound, never_is_sound, rejoin_is_sound,
-    rejoin_is_tried, same_is_sound, split_is_sound,
+    dead_is_sound, implied_is_sound, lift_is_sound, rejoin_is_sound, rejoin_is_tried,
+    same_is_sound, split_is_sound,
 };
 pub use lifting::Lifting;
-pub use refuting::Refuting;
 pub use rejoining::Rejoining;
 pub use settling::Settling;
 pub use splitting::Splitting;

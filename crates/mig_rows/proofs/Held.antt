@@ -1,5 +1,5 @@
 -- What invariants say of the rows of variables, at each moment of a call.
-use Rattle.std.proofs.Common.{◌≡◌, ℕ, zero, suc, true, List, [], ◌∷◌, Some, refl, sym, ap, ap₂, ◌∙◌, subst}
+use Rattle.std.proofs.Common.{◌≡◌, ℕ, zero, suc, true, List, [], ◌∷◌, Some, refl, sym, ap, ap₂, ◌∙◌, subst, inl, inr}
 use Rattle.std.specs.Prelude.{slice_get}
 use Rattle.mig_schema.specs.declared.faults.Side.{Side}
 use Rattle.mig_schema.specs.declared.faults.Side.TheVariants.{Old, New}
@@ -28,10 +28,19 @@ holds-in old new [] k i a h = cc
 holds-in old new (j ∷ js) zero i a h = let e : j ≡ i = cc in subst (Holds same old new) e a.0
 holds-in old new (j ∷ js) (suc k) i a h = holds-in old new js k i a.1 h
 
+holds-member : (old new : State) (is : List Invariant) (i : Invariant) → AllHold same old new is → In i is → Holds same old new i
+holds-member old new [] i a h = absurd h
+holds-member old new (j ∷ js) i a (inl e) = subst (Holds same old new) (sym e) a.0
+holds-member old new (j ∷ js) i a (inr h) = holds-member old new js i a.1 h
+
 module _ (p : Sides) (invs : List Invariant) (m : Moment) (at : IsMoment p invs m) where
   -- a listed invariant holds
   holds-at : (k : ℕ) (i : Invariant) → slice_get invs k ≡ Some i → Holds same m.old m.new i
   holds-at k i h = holds-in m.old m.new invs k i at.facts.hold h
+
+  -- so does one that is known to be among them
+  pub member-held : (i : Invariant) → In i invs → Holds same m.old m.new i
+  member-held i h = holds-member m.old m.new invs i at.facts.hold h
 
   -- before the first statement
   stage-zero : (side : Side) → stage_of p m side 0 ≡ state_of side m.old m.new

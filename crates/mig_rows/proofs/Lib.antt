@@ -17,6 +17,8 @@ pub mod MergeKeeps
 pub mod MergedSound
 pub mod NamedOnce
 pub mod NamedRow
+pub mod NeverSound
+pub mod NeverTrue
 pub mod Numbered
 pub mod OneRow
 pub mod PartedSound

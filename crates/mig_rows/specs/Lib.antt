@@ -3,6 +3,7 @@ pub mod Inside
 pub mod Lossless
 pub mod Merged
 pub mod Naming
+pub mod Never
 pub mod Parted
 pub mod Ranging
 pub mod Worked

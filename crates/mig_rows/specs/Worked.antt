@@ -1,5 +1,5 @@
 -- Worked: what each rule gives for small terms, and where it gives nothing.
-use Rattle.std.specs.Prelude.{◌≡◌, ℕ, true, false, List, [], ◌∷◌, Some, None, refl}
+use Rattle.std.specs.Prelude.{◌≡◌, ℕ, Bool, true, false, List, [], ◌∷◌, ◌++◌, Some, None, refl}
 use denote.Hole.Carrier.{hidden}
 use Rattle.mig_schema.specs.declared.faults.Side.{Side}
 use Rattle.mig_schema.specs.declared.faults.Side.TheVariants.{Old, New}
@@ -21,6 +21,7 @@ use Rattle.mig_rows.specs.Alone.{alone, alone_args}
 use Rattle.mig_rows.specs.Inside.{inside, inside_args}
 use Rattle.mig_rows.specs.Lossless.{lossless, lossless_args}
 use Rattle.mig_rows.specs.Merged.{merged, merge_args}
+use Rattle.mig_rows.specs.Never.{never}
 use Rattle.mig_rows.specs.Parted.{parted, apart_args}
 
 abbrev col : ℕ → ℕ → ColId
@@ -160,3 +161,46 @@ spares_own = refl
 named_twice : at_literal (inside partners) (0 ∷ []) (args2 1 0 0) (lacks (Cmp Eq (Col 0 1) (Col 1 0) ∷ (Cmp Eq (Param 0) (Col 1 1) ∷ [])) (of_side Old 1 ∷ [])) ≡ None
 unfolding hidden-the_row-Lit-0 hidden
 named_twice = refl
+
+-- ---- a body around an account whose id is the given number
+
+abbrev barred : Bool → List Var → List Lit → Term
+barred held vars lits = term (of_side Old 0 ∷ []) (Cmp Eq (Param 0) (Col 0 0) ∷ (Any held (record { vars = vars; lits = lits }) ∷ [])) []
+
+abbrev unbarred : Term
+unbarred = term (of_side Old 0 ∷ []) (Cmp Eq (Param 0) (Col 0 0) ∷ []) []
+
+abbrev same_number : List Lit
+same_number = Cmp Eq (Param 0) (Col 1 0) ∷ []
+
+-- no picture has the number too
+decides : at_literal (never parted_ids) (1 ∷ []) [] (barred false (of_side Old 1 ∷ []) same_number) ≡ Some (unbarred ∷ [])
+unfolding hidden-the_row-Lit-0 hidden
+decides = refl
+
+decides_held : at_literal (never parted_ids) (1 ∷ []) [] (barred true (of_side Old 1 ∷ []) same_number) ≡ Some []
+unfolding hidden-the_row-Lit-0 hidden
+decides_held = refl
+
+-- a later picture may, and one of the other side
+may_later : at_literal (never parted_ids) (1 ∷ []) [] (barred false (later 1 ∷ []) same_number) ≡ None
+unfolding hidden-the_row-Lit-0 hidden
+may_later = refl
+
+may_new : at_literal (never parted_ids) (1 ∷ []) [] (barred false (of_side New 1 ∷ []) same_number) ≡ None
+unfolding hidden-the_row-Lit-0 hidden
+may_new = refl
+
+-- no other account has it
+decides_other : at_literal (never unique_key) (1 ∷ []) [] (barred false (of_side Old 0 ∷ []) (same_number ++ Other 0 1 ∷ [])) ≡ Some (unbarred ∷ [])
+unfolding hidden-the_row-Lit-0 hidden
+decides_other = refl
+
+-- the account itself does, and a later one may
+may_itself : at_literal (never unique_key) (1 ∷ []) [] (barred false (of_side Old 0 ∷ []) same_number) ≡ None
+unfolding hidden-the_row-Lit-0 hidden
+may_itself = refl
+
+may_other : at_literal (never unique_key) (1 ∷ []) [] (barred false (later 0 ∷ []) (same_number ++ Other 0 1 ∷ [])) ≡ None
+unfolding hidden-the_row-Lit-0 hidden
+may_other = refl

@@ -10,6 +10,7 @@ ghost use Rattle.mig_rows.specs.Alone.{alone, alone_args};
 ghost use Rattle.mig_rows.specs.Inside.{inside, inside_args};
 ghost use Rattle.mig_rows.specs.Lossless.{lossless, lossless_args};
 ghost use Rattle.mig_rows.specs.Merged.{merged, merge_args};
+ghost use Rattle.mig_rows.specs.Never.{never};
 ghost use Rattle.mig_rows.specs.Parted.{parted, apart_args};
 
 /// A variable of a body whose column is unique may become one outside it with an equal column, also where an `Other` names both.
@@ -50,6 +51,11 @@ pub fn apart_is_sound()
 /// All arguments are tried, in order, with which such a term goes.
 pub fn apart_is_tried()
     ensures { (invs : List Invariant) → OffersAlone (on_term (parted invs)) own_path (λ path t. apart_args invs t) }
+{}
+
+/// A body may be decided that contradicts itself or what stands around it, or that an invariant keeps all rows from.
+pub fn never_is_sound()
+    ensures { (p : Sides) (invs : List Invariant) → IsSoundAtLiterals p invs (never invs) }
 {}
 
 /// A variable of a term may go that one equality alone names, where exactly one row meets it.

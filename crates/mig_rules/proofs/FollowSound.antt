@@ -23,19 +23,17 @@ use Rattle.std.proofs.Common.{length, subst₂}
 use Rattle.std.proofs.lemmas.List.{append-nil}
 use Rattle.mig_obligations.specs.Fitting.{IsFit, KeepsBag}
 use Rattle.mig_steps.specs.Sound.{IsSoundRule}
-use Rattle.mig_steps.specs.Ways.{on_term, at_literal, nothing}
-use Rattle.mig_steps.proofs.WaysSound.{nothing-sound, on_term-sound, at_literal-sound, alone-sound, on_terms-sound}
+use Rattle.mig_steps.specs.Ways.{on_term, at_literal}
+use Rattle.mig_steps.proofs.WaysSound.{on_term-sound, at_literal-sound, alone-sound, on_terms-sound}
 use Rattle.mig_literals.specs.Dead.{dead}
 use Rattle.mig_literals.specs.Implied.{implied}
 use Rattle.mig_literals.specs.Lifted.{lifted}
-use Rattle.mig_literals.specs.Never.{never}
 use Rattle.mig_literals.specs.Rejoined.{rejoined}
 use Rattle.mig_literals.specs.Same.{same}
 use Rattle.mig_literals.specs.Split.{split}
 use Rattle.mig_literals.proofs.DeadSound.{dead-sound}
 use Rattle.mig_literals.proofs.ImpliedSound.{implied-sound}
 use Rattle.mig_literals.proofs.LiftedSound.{lifted-sound}
-use Rattle.mig_literals.proofs.NeverSound.{never-sound}
 use Rattle.mig_literals.proofs.RejoinedSound.{rejoined-sound}
 use Rattle.mig_literals.proofs.SameSound.{same-sound}
 use Rattle.mig_literals.proofs.SplitSound.{split-sound}
@@ -43,36 +41,43 @@ use Rattle.mig_rows.specs.Alone as rows
 use Rattle.mig_rows.specs.Inside.{inside}
 use Rattle.mig_rows.specs.Lossless.{lossless}
 use Rattle.mig_rows.specs.Merged.{merged}
+use Rattle.mig_rows.specs.Never.{never}
 use Rattle.mig_rows.specs.Parted.{parted}
 use Rattle.mig_rows.proofs.AloneSound as by_rows
 use Rattle.mig_rows.proofs.InsideSound.{inside-sound}
 use Rattle.mig_rows.proofs.LosslessSound.{lossless-sound}
 use Rattle.mig_rows.proofs.MergedSound.{merged-sound}
+use Rattle.mig_rows.proofs.NeverSound.{never-sound}
 use Rattle.mig_rows.proofs.PartedSound.{parted-sound}
-use Rattle.mig_unfolding.specs.Stages.{stage}
+use Rattle.mig_unfolding.specs.Stages.{stage, stagein}
+use Rattle.mig_unfolding.proofs.StageInSound.{stagein-sound}
 use Rattle.mig_unfolding.proofs.StageSound.{stage-sound}
+use Rattle.mig_folding.specs.Foldins.{foldin}
 use Rattle.mig_folding.specs.Folds.{fold}
 use Rattle.mig_folding.proofs.FoldSound.{fold-sound}
+use Rattle.mig_folding.proofs.FoldinSound.{foldin-sound}
+use Rattle.mig_folding.specs.Found.{found}
+use Rattle.mig_folding.proofs.FoundSound.{found-sound}
 use Rattle.mig_rules.specs.Follow.{by_rule, put_terms, limited, comes_of, follow}
 use Rattle.mig_rules.specs.Keeping.{FollowLaw}
 
 rule-sound : (p : Sides) (invs : List Invariant) → IsFit p invs → (r : Rule) → IsSoundRule p invs (by_rule p invs r)
 rule-sound p invs fit Stage = alone-sound p invs (on_term (stage p)) (on_term-sound p invs (stage p) (stage-sound p invs fit))
-rule-sound p invs fit StageIn = alone-sound p invs nothing (nothing-sound p invs)
+rule-sound p invs fit StageIn = alone-sound p invs (at_literal (stagein p)) (at_literal-sound p invs (stagein p) (stagein-sound p invs fit))
 rule-sound p invs fit Dead = alone-sound p invs (on_term dead) (on_term-sound p invs dead (dead-sound p invs))
 rule-sound p invs fit Same = alone-sound p invs (on_term same) (on_term-sound p invs same (same-sound p invs))
 rule-sound p invs fit Implied = alone-sound p invs (at_literal implied) (at_literal-sound p invs implied (implied-sound p invs))
 rule-sound p invs fit Lift = alone-sound p invs (at_literal lifted) (at_literal-sound p invs lifted (lifted-sound p invs))
 rule-sound p invs fit Split = alone-sound p invs (at_literal split) (at_literal-sound p invs split (split-sound p invs))
-rule-sound p invs fit Found = alone-sound p invs nothing (nothing-sound p invs)
+rule-sound p invs fit Found = alone-sound p invs (at_literal found) (at_literal-sound p invs found (found-sound p invs))
 rule-sound p invs fit Alone = alone-sound p invs (at_literal (rows.alone invs)) (at_literal-sound p invs (rows.alone invs) (by_rows.alone-sound p invs))
 rule-sound p invs fit Inside = alone-sound p invs (at_literal (inside invs)) (at_literal-sound p invs (inside invs) (inside-sound p invs))
-rule-sound p invs fit Never = alone-sound p invs (at_literal never) (at_literal-sound p invs never (never-sound p invs))
+rule-sound p invs fit Never = alone-sound p invs (at_literal (never invs)) (at_literal-sound p invs (never invs) (never-sound p invs))
 rule-sound p invs fit Merge = alone-sound p invs (on_term (merged invs)) (on_term-sound p invs (merged invs) (merged-sound p invs))
 rule-sound p invs fit Apart = alone-sound p invs (on_term (parted invs)) (on_term-sound p invs (parted invs) (parted-sound p invs))
 rule-sound p invs fit Lossless = alone-sound p invs (on_term (lossless invs)) (on_term-sound p invs (lossless invs) (lossless-sound p invs))
 rule-sound p invs fit Fold = alone-sound p invs (on_term (fold invs)) (on_term-sound p invs (fold invs) (fold-sound p invs fit))
-rule-sound p invs fit FoldIn = alone-sound p invs nothing (nothing-sound p invs)
+rule-sound p invs fit FoldIn = alone-sound p invs (at_literal (foldin invs)) (at_literal-sound p invs (foldin invs) (foldin-sound p invs fit))
 rule-sound p invs fit Rejoin = on_terms-sound p invs rejoined (rejoined-sound p invs)
 
 -- ---- expressions

@@ -10,20 +10,22 @@ use Rattle.mig_algebra.specs.Proper.{Sides}
 use Rattle.mig_steps.specs.declared.steps.Rule.{Rule}
 use Rattle.mig_steps.specs.declared.steps.Rule.TheVariants.{Stage, StageIn, Dead, Same, Implied, Lift, Split, Found, Alone, Inside, Never, Merge, Apart, Lossless, Fold, FoldIn, Rejoin}
 use Rattle.mig_steps.specs.declared.steps.Step.{Step}
-use Rattle.mig_steps.specs.Ways.{OnTerm, OnTerms, alone, on_term, at_literal, nothing}
+use Rattle.mig_steps.specs.Ways.{OnTerm, OnTerms, alone, on_term, at_literal}
 use Rattle.mig_literals.specs.Dead.{dead}
 use Rattle.mig_literals.specs.Implied.{implied}
 use Rattle.mig_literals.specs.Lifted.{lifted}
-use Rattle.mig_literals.specs.Never.{never}
 use Rattle.mig_literals.specs.Same.{same}
 use Rattle.mig_literals.specs.Split.{split}
 use Rattle.mig_rows.specs.Alone as rows
 use Rattle.mig_rows.specs.Inside.{inside}
 use Rattle.mig_rows.specs.Lossless.{lossless}
 use Rattle.mig_rows.specs.Merged.{merged}
+use Rattle.mig_rows.specs.Never.{never}
 use Rattle.mig_rows.specs.Parted.{parted}
-use Rattle.mig_unfolding.specs.Stages.{stage}
+use Rattle.mig_unfolding.specs.Stages.{stage, stagein}
+use Rattle.mig_folding.specs.Foldins.{foldin}
 use Rattle.mig_folding.specs.Folds.{fold}
+use Rattle.mig_folding.specs.Found.{found}
 use Rattle.mig_rules.specs.First.{number_of, FindsFirst}
 use Rattle.mig_rules.specs.Follow.{by_rule, follow}
 use Rattle.mig_rules.specs.Quiet.{AreQuiet, after_step}
@@ -46,21 +48,21 @@ alone-leaves gives = record { by = λ n path args t later us h. let a = map-some
 -- all but the last do
 rule-leaves : (p : Sides) (invs : List Invariant) (r : Rule) → (number_of r == 16) ≡ false → LeavesBehind (by_rule p invs r)
 rule-leaves p invs Stage h = alone-leaves (on_term (stage p))
-rule-leaves p invs StageIn h = alone-leaves nothing
+rule-leaves p invs StageIn h = alone-leaves (at_literal (stagein p))
 rule-leaves p invs Dead h = alone-leaves (on_term dead)
 rule-leaves p invs Same h = alone-leaves (on_term same)
 rule-leaves p invs Implied h = alone-leaves (at_literal implied)
 rule-leaves p invs Lift h = alone-leaves (at_literal lifted)
 rule-leaves p invs Split h = alone-leaves (at_literal split)
-rule-leaves p invs Found h = alone-leaves nothing
+rule-leaves p invs Found h = alone-leaves (at_literal found)
 rule-leaves p invs Alone h = alone-leaves (at_literal (rows.alone invs))
 rule-leaves p invs Inside h = alone-leaves (at_literal (inside invs))
-rule-leaves p invs Never h = alone-leaves (at_literal never)
+rule-leaves p invs Never h = alone-leaves (at_literal (never invs))
 rule-leaves p invs Merge h = alone-leaves (on_term (merged invs))
 rule-leaves p invs Apart h = alone-leaves (on_term (parted invs))
 rule-leaves p invs Lossless h = alone-leaves (on_term (lossless invs))
 rule-leaves p invs Fold h = alone-leaves (on_term (fold invs))
-rule-leaves p invs FoldIn h = alone-leaves nothing
+rule-leaves p invs FoldIn h = alone-leaves (at_literal (foldin invs))
 rule-leaves p invs Rejoin h = cc
 
 -- the numbers serve on, where so many terms are new and those from number k on stayed

@@ -9,11 +9,10 @@ use Rattle.mig_steps.specs.declared.steps.Rule.{Rule}
 use Rattle.mig_steps.specs.declared.steps.Rule.TheVariants.{Stage, StageIn, Dead, Same, Implied, Lift, Split, Found, Alone, Inside, Never, Merge, Apart, Lossless, Fold, FoldIn, Rejoin}
 use Rattle.mig_steps.specs.declared.steps.Step.{Step}
 use Rattle.mig_steps.specs.Limits.{is_within_limits, is_short}
-use Rattle.mig_steps.specs.Ways.{OnTerms, on_term, at_literal, alone, on_terms, nothing}
+use Rattle.mig_steps.specs.Ways.{OnTerms, on_term, at_literal, alone, on_terms}
 use Rattle.mig_literals.specs.Dead.{dead}
 use Rattle.mig_literals.specs.Implied.{implied}
 use Rattle.mig_literals.specs.Lifted.{lifted}
-use Rattle.mig_literals.specs.Never.{never}
 use Rattle.mig_literals.specs.Rejoined.{rejoined}
 use Rattle.mig_literals.specs.Same.{same}
 use Rattle.mig_literals.specs.Split.{split}
@@ -21,28 +20,31 @@ use Rattle.mig_rows.specs.Alone as rows
 use Rattle.mig_rows.specs.Inside.{inside}
 use Rattle.mig_rows.specs.Lossless.{lossless}
 use Rattle.mig_rows.specs.Merged.{merged}
+use Rattle.mig_rows.specs.Never.{never}
 use Rattle.mig_rows.specs.Parted.{parted}
-use Rattle.mig_unfolding.specs.Stages.{stage}
+use Rattle.mig_unfolding.specs.Stages.{stage, stagein}
+use Rattle.mig_folding.specs.Foldins.{foldin}
 use Rattle.mig_folding.specs.Folds.{fold}
+use Rattle.mig_folding.specs.Found.{found}
 
 -- what a rule puts in place of a term and of those behind it, by the term's number and the step's path and arguments
 abbrev pub by_rule : Sides → List Invariant → Rule → OnTerms
 by_rule p invs Stage = alone (on_term (stage p))
-by_rule p invs StageIn = alone nothing
+by_rule p invs StageIn = alone (at_literal (stagein p))
 by_rule p invs Dead = alone (on_term dead)
 by_rule p invs Same = alone (on_term same)
 by_rule p invs Implied = alone (at_literal implied)
 by_rule p invs Lift = alone (at_literal lifted)
 by_rule p invs Split = alone (at_literal split)
-by_rule p invs Found = alone nothing
+by_rule p invs Found = alone (at_literal found)
 by_rule p invs Alone = alone (at_literal (rows.alone invs))
 by_rule p invs Inside = alone (at_literal (inside invs))
-by_rule p invs Never = alone (at_literal never)
+by_rule p invs Never = alone (at_literal (never invs))
 by_rule p invs Merge = alone (on_term (merged invs))
 by_rule p invs Apart = alone (on_term (parted invs))
 by_rule p invs Lossless = alone (on_term (lossless invs))
 by_rule p invs Fold = alone (on_term (fold invs))
-by_rule p invs FoldIn = alone nothing
+by_rule p invs FoldIn = alone (at_literal (foldin invs))
 by_rule p invs Rejoin = on_terms rejoined
 
 -- terms in place of the term of number n and of all behind it

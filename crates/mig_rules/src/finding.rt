@@ -8,11 +8,11 @@ ghost use Rattle.mig_rules.specs.Offered as offered;
 use crate::following::{Tail, followed, tail_of};
 use mig_algebra::{Expr, Term};
 use mig_base::{Exact, Seq};
-use mig_folding::fold_args;
+use mig_folding::{fold_args, foldin_args, found_args};
 use mig_literals::rejoin_args;
 use mig_rows::{alone_args, apart_args, inside_args, lossless_args, merge_args};
 use mig_steps::{Facts, Rule, Step, body_paths, lit_paths, numbers, one_empty};
-use mig_unfolding::stage_args;
+use mig_unfolding::{stage_args, stagein_args};
 use std::alloc::{AllocError, Global};
 
 /// The rules in order.
@@ -50,10 +50,14 @@ pub(crate) fn paths_for(alloc: Global, rule: Rule, term: &Term) -> Result<Seq<Se
         | Rule::Fold
         | Rule::Rejoin => one_empty(alloc),
         Rule::Implied => lit_paths(alloc, term),
-        Rule::Lift | Rule::Split | Rule::Alone | Rule::Inside | Rule::Never => {
-            body_paths(alloc, term)
-        }
-        Rule::StageIn | Rule::Found | Rule::FoldIn => Ok(Seq::new(alloc)),
+        Rule::StageIn
+        | Rule::Lift
+        | Rule::Split
+        | Rule::Found
+        | Rule::Alone
+        | Rule::Inside
+        | Rule::Never
+        | Rule::FoldIn => body_paths(alloc, term),
     }
 }
 
@@ -70,12 +74,15 @@ pub(crate) fn args_for(
     let invariants = facts.invariants.list.as_slice();
     match rule {
         Rule::Stage => stage_args(alloc, tail.term),
+        Rule::StageIn => stagein_args(alloc, path, tail.term),
+        Rule::Found => found_args(alloc, path, tail.term),
         Rule::Alone => alone_args(alloc, invariants, path, tail.term),
         Rule::Inside => inside_args(alloc, invariants, path, tail.term),
         Rule::Merge => merge_args(alloc, invariants, tail.term),
         Rule::Apart => apart_args(alloc, invariants, tail.term),
         Rule::Lossless => lossless_args(alloc, invariants, tail.term),
         Rule::Fold => fold_args(alloc, invariants, tail.term),
+        Rule::FoldIn => foldin_args(alloc, invariants, path, tail.term),
         Rule::Rejoin => rejoin_args(alloc, tail.number, tail.term, tail.later),
         _ => one_empty(alloc),
     }

@@ -3,20 +3,20 @@ ghost use Rattle.std.specs.Prelude.{◌≡◌, ◌<◌, ◌+◌, Some, None, IfO
 ghost use Rattle.std.specs.Option.{MatchOption};
 ghost use Rattle.std.specs.Result.{MatchResult};
 ghost use Rattle.mig_steps.specs.declared.steps.StepFault.TheVariants.{NoFollow as ANoFollow};
-ghost use Rattle.mig_steps.specs.Ways.{alone, nothing, on_term, at_literal};
+ghost use Rattle.mig_steps.specs.Ways.{alone, on_term, at_literal};
 ghost use Rattle.mig_obligations.specs.Pairs.{sides_of};
 ghost use Rattle.mig_rules.specs.Follow as spec;
 
 use mig_algebra::{Expr, Term};
 use mig_base::Seq;
-use mig_folding::Viewing;
-use mig_literals::{Dying, Implying, Lifting, Refuting, Rejoining, Settling, Splitting};
-use mig_rows::{Losing, Merging, Parting, Sparing, Uniting};
+use mig_folding::{Finding, Viewing, ViewingBodies};
+use mig_literals::{Dying, Implying, Lifting, Rejoining, Settling, Splitting};
+use mig_rows::{Losing, Merging, Parting, Refuting, Sparing, Uniting};
 use mig_steps::{
     Facts, LitRule, Rule, Step, StepFault, TermRule, at_literal, before_later, is_short,
     is_within_limits, on_term, on_terms, push_terms,
 };
-use mig_unfolding::Staging;
+use mig_unfolding::{InnerStaging, Staging};
 use std::alloc::{AllocError, Global};
 
 /// A term, by its number, and those behind it.
@@ -72,18 +72,21 @@ pub(crate) fn by_rule(
     let invariants = facts.invariants.list.as_slice();
     match rule {
         Rule::Stage => by_term(alloc, &Staging { pair }, path, args, tail),
+        Rule::StageIn => by_literal(alloc, &InnerStaging { pair }, path, args, tail),
         Rule::Dead => by_term(alloc, &Dying, path, args, tail),
         Rule::Same => by_term(alloc, &Settling, path, args, tail),
         Rule::Implied => by_literal(alloc, &Implying, path, args, tail),
         Rule::Lift => by_literal(alloc, &Lifting, path, args, tail),
         Rule::Split => by_literal(alloc, &Splitting, path, args, tail),
+        Rule::Found => by_literal(alloc, &Finding, path, args, tail),
         Rule::Alone => by_literal(alloc, &Uniting { invariants }, path, args, tail),
         Rule::Inside => by_literal(alloc, &Sparing { invariants }, path, args, tail),
-        Rule::Never => by_literal(alloc, &Refuting, path, args, tail),
+        Rule::Never => by_literal(alloc, &Refuting { invariants }, path, args, tail),
         Rule::Merge => by_term(alloc, &Merging { invariants }, path, args, tail),
         Rule::Apart => by_term(alloc, &Parting { invariants }, path, args, tail),
         Rule::Lossless => by_term(alloc, &Losing { invariants }, path, args, tail),
         Rule::Fold => by_term(alloc, &Viewing { invariants }, path, args, tail),
+        Rule::FoldIn => by_literal(alloc, &ViewingBodies { invariants }, path, args, tail),
         Rule::Rejoin => on_terms(
             alloc,
             &Rejoining,
@@ -93,7 +96,6 @@ pub(crate) fn by_rule(
             tail.term,
             tail.later,
         ),
-        Rule::StageIn | Rule::Found | Rule::FoldIn => Ok(None),
     }
 }
 

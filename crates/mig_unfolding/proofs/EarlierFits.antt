@@ -1,19 +1,17 @@
--- A proper term stays proper where one of its variables stands a stage earlier.
+-- What fits among variables fits where some of them stand a stage earlier.
 use Rattle.std.proofs.Common.{◌≡◌, ℕ, zero, suc, ◌+◌, ◌-◌, Bool, true, false, cond, not, ◌&&◌, ◌||◌, List, [], ◌∷◌, ◌++◌, map, Option, Some, None, refl, sym, ap, ap₂, ◌∙◌, arith, inl, inr, ◌⊎◌}
 use Rattle.std.specs.Prelude.{◌==◌, nat_lt, slice_get}
 use Rattle.std.specs.List.{list_all}
 use Rattle.std.proofs.lemmas.Bool.{and_parts, and_from, or_cases, or_left, or_right, eqb-true, eq-eqb, ltb-true, lt-ltb}
 use Rattle.mig_schema.specs.declared.faults.Side.{Side}
-use Rattle.mig_schema.specs.declared.tables.Kind.{Kind}
 use Rattle.mig_base.specs.Lists.{numbered}
 use Rattle.mig_schema.specs.Columns.{has_table}
 use Rattle.mig_algebra.specs.declared.atoms.Var.{Var}
 use Rattle.mig_algebra.specs.declared.atoms.Atom.{Atom}
 use Rattle.mig_algebra.specs.declared.atoms.Atom.TheVariants.{Int, Text, Param, Fresh, Col}
 use Rattle.mig_algebra.specs.declared.literals.Lit.{Lit, Cmp, Other, Any', Row_of-Lit, end_of-Lit, more_of-Lit}
-use Rattle.mig_algebra.specs.declared.terms.Term.{Term}
-use Rattle.mig_algebra.specs.Proper.{Sides, schema_of, last_stage, var_fits, column_kind, atom_kind, cmp_fits, same_side, other_fits, lit_fits, row_fits, IsProperTerm}
-use Rattle.mig_unfolding.specs.Unfolding.{var_before, before_statement}
+use Rattle.mig_algebra.specs.Proper.{Sides, schema_of, last_stage, var_fits, column_kind, atom_kind, cmp_fits, same_side, other_fits, lit_fits, row_fits}
+use Rattle.mig_unfolding.specs.Hosts.{var_before}
 
 -- w is v, or v at an earlier stage
 pub record Earlier (v w : Var) : Type 0 where
@@ -28,7 +26,7 @@ AllEarlier [] (w ∷ ws) = ⊥
 AllEarlier (v ∷ vs) [] = ⊥
 AllEarlier (v ∷ vs) (w ∷ ws) = Earlier v w × AllEarlier vs ws
 
-earlier-itself : (v : Var) → Earlier v v
+pub earlier-itself : (v : Var) → Earlier v v
 earlier-itself v = record { side = refl; table = refl; first = λ h. h }
 
 all-itself : (vs : List Var) → AllEarlier vs vs
@@ -58,7 +56,7 @@ kind-earlier p vs ws h (Param n) = refl
 kind-earlier p vs ws h (Fresh n) = refl
 kind-earlier p vs ws h (Col v c) = column-earlier p vs ws v c h
 
-kinds-earlier : (p : Sides) (vs ws : List Var) → AllEarlier vs ws → (xs : List Atom) → map (atom_kind p vs) xs ≡ map (atom_kind p ws) xs
+pub kinds-earlier : (p : Sides) (vs ws : List Var) → AllEarlier vs ws → (xs : List Atom) → map (atom_kind p vs) xs ≡ map (atom_kind p ws) xs
 kinds-earlier p vs ws h [] = refl
 kinds-earlier p vs ws h (x ∷ xs) = ap₂ (λ a b. a ∷ b) (kind-earlier p vs ws h x) (kinds-earlier p vs ws h xs)
 
@@ -113,15 +111,15 @@ mutual
       let k = and_parts (lit_fits p vs l) (row_fits p vs rest) t in
       and_from (lit_fits p ws l) (row_fits p ws rest) (earlier-fits p vs ws h l k.0) (earlier-row-fits p vs ws h rest k.1)
 
-earlier-all-fit : (p : Sides) (vs ws : List Var) → AllEarlier vs ws → (ls : List Lit) → list_all (lit_fits p vs) ls ≡ true → list_all (lit_fits p ws) ls ≡ true
+pub earlier-all-fit : (p : Sides) (vs ws : List Var) → AllEarlier vs ws → (ls : List Lit) → list_all (lit_fits p vs) ls ≡ true → list_all (lit_fits p ws) ls ≡ true
 earlier-all-fit p vs ws h [] t = refl
 earlier-all-fit p vs ws h (l ∷ ls) t =
     let k = and_parts (lit_fits p vs l) (list_all (lit_fits p vs) ls) t in
     and_from (lit_fits p ws l) (list_all (lit_fits p ws) ls) (earlier-fits p vs ws h l k.0) (earlier-all-fit p vs ws h ls k.1)
 
--- ---- a term
+-- ---- a variable a statement before
 
-before-earlier : (v : ℕ) (n : ℕ) (vs : List Var) → AllEarlier vs (numbered (λ m (w : Var). cond (m == v) (var_before w) w) n vs)
+pub before-earlier : (v : ℕ) (n : ℕ) (vs : List Var) → AllEarlier vs (numbered (λ m (w : Var). cond (m == v) (var_before w) w) n vs)
 before-earlier v n [] = tt
 before-earlier v n (u ∷ us) = (one (n == v), before-earlier v (n + 1) us)
   where
@@ -132,26 +130,17 @@ before-earlier v n (u ∷ us) = (one (n == v), before-earlier v (n + 1) us)
     one true = record { side = refl; table = refl; first = first }
     one false = earlier-itself u
 
-before-fit : (p : Sides) (v : ℕ) (n : ℕ) (vs : List Var) → list_all (var_fits p) vs ≡ true → list_all (var_fits p) (numbered (λ m (w : Var). cond (m == v) (var_before w) w) n vs) ≡ true
+pub lower : (s l : ℕ) → nat_lt s (l + 1) ≡ true → nat_lt (s - 1) (l + 1) ≡ true
+lower s l t = let e = ltb-true s (l + 1) t in lt-ltb (s - 1) (l + 1) (omega (arith, e))
+
+pub before-fit : (p : Sides) (v : ℕ) (n : ℕ) (vs : List Var) → list_all (var_fits p) vs ≡ true → list_all (var_fits p) (numbered (λ m (w : Var). cond (m == v) (var_before w) w) n vs) ≡ true
 before-fit p v n [] h = refl
 before-fit p v n (u ∷ us) h =
     let k = and_parts (var_fits p u) (list_all (var_fits p) us) h in
     and_from (var_fits p (cond (n == v) (var_before u) u)) (list_all (var_fits p) (numbered (λ m (w : Var). cond (m == v) (var_before w) w) (n + 1) us)) (one (n == v) k.0) (before-fit p v (n + 1) us k.1)
   where
-    lower : (s l : ℕ) → nat_lt s (l + 1) ≡ true → nat_lt (s - 1) (l + 1) ≡ true
-    lower s l t = let e = ltb-true s (l + 1) t in lt-ltb (s - 1) (l + 1) (omega (arith, e))
-
     one : (b : Bool) → var_fits p u ≡ true → var_fits p (cond b (var_before u) u) ≡ true
     one false t = t
     one true t =
         let k = and_parts (has_table (schema_of p u.side) u.table) (nat_lt u.stage (last_stage p u.side + 1)) t in
         and_from (has_table (schema_of p u.side) u.table) (nat_lt (u.stage - 1) (last_stage p u.side + 1)) k.0 (lower u.stage (last_stage p u.side) k.1)
-
--- the term a statement before is proper
-pub proper-before : (p : Sides) (kinds : List Kind) (t : Term) (v : ℕ) → IsProperTerm p kinds t → IsProperTerm p kinds (before_statement v t)
-proper-before p kinds t v h = record {
-  vars = before-fit p v 0 t.vars h.vars;
-  fits = earlier-all-fit p t.vars (before_statement v t).vars (before-earlier v 0 t.vars) t.lits h.fits;
-  oriented = h.oriented;
-  head = sym (kinds-earlier p t.vars (before_statement v t).vars (before-earlier v 0 t.vars) t.head) ∙ h.head;
-}

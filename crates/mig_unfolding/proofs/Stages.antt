@@ -19,8 +19,8 @@ use Rattle.mig_meaning.specs.Conditions.{Given}
 use Rattle.mig_meaning.specs.Effect.{new_values, with_row, with_rows, effect, after_all}
 use Rattle.mig_algebra.specs.Proper.{Sides, schema_of}
 use Rattle.mig_obligations.specs.Settings.{Moment, stage_of}
-use Rattle.mig_unfolding.specs.Unfolding.{touches}
 use Rattle.mig_unfolding.specs.Stages.{statements_at}
+use Rattle.mig_unfolding.specs.Unfolding.{touches}
 
 -- ---- lists by number
 
@@ -38,23 +38,23 @@ numbered-kept f n (x ∷ xs) (suc u) h =
     let e : (n + 1) + u ≡ n + suc u = omega arith in
     numbered-kept f (n + 1) xs u (λ rows. ap (λ m. f m rows) e ∙ h rows)
 
-numbered-length : {X Y : Type 0} (f : ℕ → X → Y) (n : ℕ) (xs : List X) → length (numbered f n xs) ≡ length xs
+pub numbered-length : {X Y : Type 0} (f : ℕ → X → Y) (n : ℕ) (xs : List X) → length (numbered f n xs) ≡ length xs
 numbered-length f n [] = refl
 numbered-length f n (x ∷ xs) = ap suc (numbered-length f (n + 1) xs)
 
 -- ---- statements
 
-other-row : (s : State) (t u : ℕ) (vs : List Value) → (t == u) ≡ false → rows_of (with_row s u vs) t ≡ rows_of s t
+pub other-row : (s : State) (t u : ℕ) (vs : List Value) → (t == u) ≡ false → rows_of (with_row s u vs) t ≡ rows_of s t
 other-row s t u vs h =
     numbered-kept (λ n rows. cond (n == u) (rows ++ (record { id = s.next; row = record { values = vs } } ∷ [])) rows) 0 s.tables t (λ rows.
     let e : 0 + t ≡ t = omega arith in
     ap (λ n. cond (n == u) (rows ++ (record { id = s.next; row = record { values = vs } } ∷ [])) rows) e
     ∙ ap (λ b. cond b (rows ++ (record { id = s.next; row = record { values = vs } } ∷ [])) rows) h)
 
-other-way : (t u : ℕ) → (u == t) ≡ false → (t == u) ≡ false
+pub other-way : (t u : ℕ) → (u == t) ≡ false → (t == u) ≡ false
 other-way t u h = ne_eqb t u (λ e. eqb-false u t h (sym e))
 
-other-rows : (schema : Schema) (g : Given) (ms : List Joined) (vs : List Assign) (ts : List ℕ) (s : State) (t : ℕ) → is_among t ts ≡ false → rows_of (with_rows schema g ms vs ts s) t ≡ rows_of s t
+pub other-rows : (schema : Schema) (g : Given) (ms : List Joined) (vs : List Assign) (ts : List ℕ) (s : State) (t : ℕ) → is_among t ts ≡ false → rows_of (with_rows schema g ms vs ts s) t ≡ rows_of s t
 other-rows schema g ms vs [] s t h = refl
 other-rows schema g ms vs (u ∷ us) s t h =
     let k = or_parts (u == t) (is_among t us) h in

@@ -1,117 +1,67 @@
-// A variable of a term unfolded by the statement that leads to its stage.
-ghost use Rattle.std.specs.Prelude.{◌≡◌, ◌==◌, ◌<◌, ◌∷◌, [], Some, cond, IfOk, length};
+// A host's own variable unfolded by the statement that leads to its stage.
+ghost use Rattle.std.specs.Prelude.{◌≡◌, ◌+◌, ◌-◌, ◌<◌, ◌∷◌, [], IfOk, cond, length, Some, None};
 ghost use Rattle.mig_schema.specs.Joins.{is_among};
-ghost use Rattle.mig_base.specs.Lists.{numbered};
-ghost use Rattle.mig_algebra.specs.declared.atoms.Var.{Var as AVar};
-ghost use Rattle.mig_algebra.specs.Rename as rename;
+ghost use Rattle.mig_algebra.specs.Obligations as obligations;
+ghost use Rattle.mig_unfolding.specs.Hosts as hosts;
+ghost use Rattle.mig_unfolding.specs.Narrowed as narrowing;
 ghost use Rattle.mig_unfolding.specs.Unfolding as spec;
 
-use mig_algebra::{Atom, Renaming, Term, Var, renamed_atoms, renamed_lits};
-use mig_base::{Exact, Seq};
+use crate::cases::Seeing;
+use crate::hosts::before_statement;
+use crate::inserting::{Adding, inserted};
+use crate::narrowing::{Newest, in_all};
+use crate::setting::{Writing, is_unused, set_hosts};
+use mig_algebra::{Term, Var};
+use mig_base::{Seq, number};
 use mig_obligations::{list_of, scalar_atom};
-use mig_schema::{Assign, ColId, Stmt, is_in_join};
-use mig_steps::{is_unnamed, leaving_out};
+use mig_schema::{Assign, Cmp, ColId, Join, Scalar, Stmt, is_in_join};
 use std::alloc::{AllocError, Global};
 
-/// The values that an insert writes in place of a variable.
-#[derive(Drop)]
-pub(crate) struct Writing<'a> {
-    var: u32,
-    table: u32,
-    values: &'a [Assign],
+/// A host's own variable.
+#[derive(Clone, Copy)]
+pub(crate) struct Own<'a> {
+    /// The variables around the host.
+    pub scope: &'a [Var],
+    /// The variable's number among the host's own.
+    pub at: u32,
+    pub var: &'a Var,
 }
 
-/// What an insert of one table writes into a column; a number where it writes nothing.
-fn written_atom(alloc: Global, values: &[Assign], column: ColId) -> Result<Atom, AllocError>
-    ensures { IfOk result (λ a. a ≡ spec.written_atom values.now column) }
-{
-    match values {
-        [] => Ok(Atom::Int(0)),
-        [first, rest @ ..] => if first.column == column {
-            scalar_atom(alloc, &first.value)
-        } else {
-            written_atom(alloc, rest, column)
-        },
-    }
-}
-
-/// A variable's number where another one is taken away.
-fn below(gone: u32, var: u32) -> u32
-    ensures { result ≡ rename.below gone var }
-{
-    if var < gone {
-        var
-    } else {
-        var.saturating_sub(1)
-    }
-}
-
-impl<'a> Renaming for Writing<'a> {
-    ghost use Rattle.mig_schema.specs.declared.tables.ColId.{ColId as AColumn};
-
-    ghost atom_for = { λ w a. rename.without w.var (λ c. spec.written_atom w.values.now (record { table = w.table; column = c })) a };
-
-    ghost id_for = { λ w v. rename.below w.var v };
-
-    fn atom(&self, alloc: Global, atom: &Atom) -> Result<Atom, AllocError> {
-        match atom {
-            Atom::Int(i) => Ok(Atom::Int(*i)),
-            Atom::Text(t) => Ok(Atom::Text(t.twin(alloc)?)),
-            Atom::Param(p) => Ok(Atom::Param(*p)),
-            Atom::Fresh(n) => Ok(Atom::Fresh(*n)),
-            Atom::Col { var, column } => if *var == self.var {
-                let table = self.table;
-                let column = *column;
-                written_atom(alloc, self.values, ColId { table, column })
-            } else {
-                Ok(Atom::Col {
-                    var: below(self.var, *var),
-                    column: *column,
-                })
-            },
-        }
+impl<'a> Own<'a> {
+    /// How many variables stand around the host.
+    fn around(&self) -> Result<u32, AllocError>
+        ensures { IfOk result (λ n. n ≡ length self.now.scope.now) }
+    {
+        let count = number(self.scope.len())?;
+        Ok(count)
     }
 
-    fn id(&self, var: u32) -> Result<u32, AllocError> {
-        Ok(below(self.var, var))
-    }
-}
-
-/// Variables of which the one of number `at` stands one stage earlier.
-fn vars_before(alloc: Global, vars: &[Var], at: usize) -> Result<Seq<Var>, AllocError>
-    ensures { IfOk result (λ s. s ≡ numbered (λ n (w : AVar). cond (n == at) (spec.var_before w) w) 0 vars.now) }
-{
-    let mut before = Seq::new(alloc);
-    for (i, var) in vars.iter().enumerate() {
-        let stage = if i == at {
-            var.stage.saturating_sub(1)
-        } else {
-            var.stage
+    /// The variable's number among all in scope.
+    fn number(&self) -> Result<u32, AllocError>
+        ensures { IfOk result (λ v. v ≡ length self.now.scope.now + self.now.at) }
+    {
+        let Some(count) = self.scope.len().checked_add(self.at as usize) else {
+            return Err(AllocError);
         };
-        before.push(Var { stage, ..*var })?;
+        let count = number(count)?;
+        Ok(count)
     }
-    Ok(before)
-}
 
-/// A term whose variable of number `at` stands one stage earlier.
-fn before_statement(alloc: Global, term: &Term, at: usize) -> Result<Term, AllocError>
-    ensures { IfOk result (λ t. t ≡ spec.before_statement at term.now) }
-{
-    let vars = vars_before(alloc, term.vars.as_slice(), at)?;
-    let lits = term.lits.twin(alloc)?;
-    let head = term.head.twin(alloc)?;
-    Ok(Term { vars, lits, head })
-}
-
-/// A term without a variable, each of whose columns is what an insert writes.
-fn with_atoms(alloc: Global, writing: &Writing, term: &Term) -> Result<Term, AllocError>
-    requires { writing.now.var < length term.now.vars }
-    ensures { IfOk result (λ t. t ≡ spec.with_atoms writing.now.var (λ c. spec.written_atom writing.now.values.now (record { table = writing.now.table; column = c })) term.now) }
-{
-    let vars = leaving_out(alloc, term.vars.as_slice(), writing.var as usize)?;
-    let lits = Seq::from_vec(renamed_lits(alloc, writing, term.lits.as_slice())?);
-    let head = Seq::from_vec(renamed_atoms(alloc, writing, term.head.as_slice())?);
-    Ok(Term { vars, lits, head })
+    /// What the variable sees of the condition of the statement before its stage.
+    fn seeing<'b>(&self, join: &'b Join, host: &Term) -> Result<Seeing<'b>, AllocError>
+        ensures of { IfOk result (λ s. (s.side ≡ self.now.var.now.side) × (s.table ≡ self.now.var.now.table) × (s.join.now ≡ join.now)) }
+        ensures stage { IfOk result (λ s. s.stage ≡ self.now.var.now.stage - 1) }
+        ensures numbers { IfOk result (λ s. (s.var ≡ length self.now.scope.now + self.now.at) × (s.scope ≡ length self.now.scope.now + length host.now.vars)) }
+    {
+        Ok(Seeing {
+            side: self.var.side,
+            stage: self.var.stage.saturating_sub(1),
+            join,
+            table: self.var.table,
+            var: self.number()?,
+            scope: in_all(self.around()?, host.vars.as_slice())?,
+        })
+    }
 }
 
 /// Whether a table is among these.
@@ -121,47 +71,135 @@ fn is_listed(tables: &[u32], table: u32) -> bool
     tables.iter().any(|t| *t == table)
 }
 
-/// The term alone whose variable stands one stage earlier, since a statement leaves its table as it is.
-fn left_alone(alloc: Global, term: &Term, at: u32) -> Result<Option<Seq<Term>>, AllocError>
-    ensures { IfOk result (λ o. o ≡ Some (spec.before_statement at term.now ∷ [])) }
+/// The host alone, for the rows that were there.
+fn left_alone(alloc: Global, own: &Own, host: &Term) -> Result<Seq<Term>, AllocError>
+    ensures { IfOk result (λ s. s ≡ hosts.before_statement own.now.at host.now ∷ []) }
 {
-    let before = before_statement(alloc, term, at as usize)?;
-    Ok(Some(list_of(alloc, [before])?))
+    let before = before_statement(alloc, host, own.at as usize)?;
+    Ok(list_of(alloc, [before])?)
 }
 
-/// The terms for the rows that were there, and for the row that an insert of one table adds.
-fn inserted(alloc: Global, term: &Term, writing: &Writing) -> Result<Option<Seq<Term>>, AllocError>
-    requires { writing.now.var < length term.now.vars }
-    ensures { IfOk result (λ o. o ≡ Some (spec.before_statement writing.now.var term.now ∷ (spec.with_atoms writing.now.var (λ c. spec.written_atom writing.now.values.now (record { table = writing.now.table; column = c })) term.now ∷ []))) }
+/// The hosts where an insert adds a row to the table; nothing where an `Other` of the variable may not go.
+#[tactic(auto, using(crate::proofs::NarrowLists::narrowed_length))]
+fn by_insert(
+    alloc: Global,
+    own: &Own,
+    join: &Join,
+    values: &[Assign],
+    host: &Term,
+) -> Result<Option<Seq<Term>>, AllocError>
+    requires { own.now.at < length host.now.vars }
+    ensures { IfOk result (λ o. o ≡ cond (narrowing.host_narrows own.now.var.now (length own.now.scope.now + own.now.at) own.now.scope.now host.now) (Some (spec.insert_hosts (length own.now.scope.now) own.now.at own.now.var.now join.now values.now host.now)) None) }
 {
-    let before = before_statement(alloc, term, writing.var as usize)?;
-    let added = with_atoms(alloc, writing, term)?;
-    Ok(Some(list_of(alloc, [before, added])?))
+    let var = own.number()?;
+    let newest = Newest {
+        var: own.var,
+        number: var,
+    };
+    if !newest.may_go(alloc, own.scope, host)? {
+        return Ok(None);
+    }
+    let at = own.at;
+    let table = own.var.table;
+    let adding = Adding {
+        var,
+        at,
+        table,
+        join,
+        values,
+    };
+    let narrowed = newest.host(alloc, own.around()?, host)?;
+    let hosts = inserted(alloc, &adding, host, &narrowed)?;
+    Ok(Some(hosts))
 }
 
-/// The terms that a term becomes where its variable of number `at`, of a table, is unfolded by a statement; nothing
-/// where the statement unfolds nothing.
+/// The host where a delete takes rows from the table.
+fn by_delete(
+    alloc: Global,
+    own: &Own,
+    join: &Join,
+    cases: &[Seq<Cmp>],
+    host: &Term,
+) -> Result<Seq<Term>, AllocError>
+    ensures { IfOk result (λ s. s ≡ spec.deleted (length own.now.scope.now) own.now.at own.now.var.now join.now cases.now host.now ∷ []) }
+{
+    let seeing = own.seeing(join, host)?;
+    let mut left = before_statement(alloc, host, own.at as usize)?;
+    seeing.push_unmet(alloc, cases, &mut left.lits)?;
+    Ok(list_of(alloc, [left])?)
+}
+
+/// The hosts where a set writes a column of the table.
+fn by_set(
+    alloc: Global,
+    own: &Own,
+    column: u32,
+    value: &Scalar,
+    join: &Join,
+    cases: &[Seq<Cmp>],
+    host: &Term,
+) -> Result<Seq<Term>, AllocError>
+    ensures { IfOk result (λ s. s ≡ spec.set_hosts (length own.now.scope.now) own.now.at own.now.var.now column (obligations.scalar_atom value.now) join.now cases.now host.now) }
+{
+    let seeing = own.seeing(join, host)?;
+    let value = scalar_atom(alloc, value)?;
+    let writing = Writing {
+        var: seeing.var,
+        column,
+        value: &value,
+    };
+    let before = before_statement(alloc, host, own.at as usize)?;
+    let hosts = set_hosts(alloc, &seeing, &writing, before, cases)?;
+    Ok(hosts)
+}
+
+/// Whether a set of a column can be seen from the variable.
+fn is_seen(own: &Own, column: ColId, host: &Term) -> Result<bool, AllocError>
+    ensures { IfOk result (λ b. b ≡ spec.is_seen column ((length own.now.scope.now) + own.now.at) own.now.var.now.table host.now) }
+{
+    let var = own.number()?;
+    Ok(column.table == own.var.table && !is_unused(var, column.column, host))
+}
+
+/// The hosts that a host becomes where its variable is unfolded by a statement; nothing where the statement inserts and an `Other` of the variable may not go.
 pub(crate) fn unfolded(
     alloc: Global,
     stmt: &Stmt,
-    at: u32,
-    table: u32,
-    term: &Term,
+    own: &Own,
+    host: &Term,
 ) -> Result<Option<Seq<Term>>, AllocError>
-    requires { at < length term.now.vars }
-    ensures { IfOk result (λ o. o ≡ spec.unfolded stmt.now at table term.now) }
+    requires { own.now.at < length host.now.vars }
+    ensures { IfOk result (λ o. o ≡ spec.unfolded stmt.now own.now.scope.now own.now.at own.now.var.now host.now) }
 {
     match stmt {
-        Stmt::Insert { join, values } if is_in_join(join, table) => {
-            if !join.more.is_empty() || !is_unnamed(at, term) {
-                return Ok(None);
-            }
-            let values = values.as_slice();
-            let var = at;
-            inserted(alloc, term, &Writing { var, table, values })
+        Stmt::Insert { join, values } if is_in_join(join, own.var.table) => {
+            let hosts = by_insert(alloc, own, join, values.as_slice(), host)?;
+            Ok(hosts)
         }
-        Stmt::Delete { tables, .. } if is_listed(tables.as_slice(), table) => Ok(None),
-        Stmt::Set { column, .. } if column.table == table => Ok(None),
-        _ => left_alone(alloc, term, at),
+        Stmt::Delete { tables, join, cond } if is_listed(tables.as_slice(), own.var.table) => {
+            let hosts = by_delete(alloc, own, join, cond.cases.as_slice(), host)?;
+            Ok(Some(hosts))
+        }
+        Stmt::Set {
+            column,
+            value,
+            join,
+            cond,
+        } if is_seen(own, *column, host)? => {
+            let hosts = by_set(
+                alloc,
+                own,
+                column.column,
+                value,
+                join,
+                cond.cases.as_slice(),
+                host,
+            )?;
+            Ok(Some(hosts))
+        }
+        _ => {
+            let hosts = left_alone(alloc, own, host)?;
+            Ok(Some(hosts))
+        }
     }
 }
