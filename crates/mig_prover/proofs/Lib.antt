@@ -1,0 +1,10 @@
+pub mod CandidatesShaped
+pub mod Closings
+pub mod JoinsShaped
+pub mod LeastSteps
+pub mod OneProof
+pub mod OneWay
+pub mod Sound
+pub mod Stands
+pub mod Tracings
+pub mod Withouts

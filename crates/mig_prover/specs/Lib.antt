@@ -1,0 +1,5 @@
+pub mod Closing
+pub mod Proving
+pub mod Rounds
+pub mod Simplified
+pub mod Tracing

@@ -1,0 +1,16 @@
+pub mod Agreeing
+pub mod Differs
+pub mod Everywhere
+pub mod Kept
+pub mod Looks
+pub mod Named
+pub mod OneFailing
+pub mod OneLooked
+pub mod OneMade
+pub mod OneOutcome
+pub mod Outputs
+pub mod Passed
+pub mod Picked
+pub mod Sized
+pub mod Stops
+pub mod Taken
