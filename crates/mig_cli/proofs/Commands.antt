@@ -2,6 +2,7 @@
 use Rattle.std.proofs.Common.{◌≡◌, ◌≢◌, ℕ, List, [], ◌∷◌, Result, Ok, Err, None, codes, ◌⊎◌, inl, inr, sym, ◌∙◌}
 use Rattle.mig_words.specs.declared.command.Command.{Command}
 use Rattle.mig_words.specs.declared.command.Command.TheVariants.{Migrate, Check, Run, Trial}
+use Rattle.mig_words.specs.declared.command.Options.{Options}
 use Rattle.mig_words.specs.declared.command.WordFault.{WordFault}
 use Rattle.mig_words.specs.declared.command.WordFault.TheVariants as word
 use Rattle.mig_words.specs.Commands as commands
@@ -22,9 +23,9 @@ first-word words c (commands.runs_new job calls answer e a b d is) = (job ∷ ca
 first-word words c (commands.tries number e a is) = (number ∷ [], rw is e)
 
 -- words that ask to migrate ask to run nothing
-pub migrate-no_run : (words : List (List ℕ)) (file other calls : List ℕ) → asked.AsksToMigrate words file → asked.AsksToRun words other calls → ⊥
-migrate-no_run words file other calls m r =
-    let a = first-word words (Migrate file m.0) m.1 in
+pub migrate-no_run : (words : List (List ℕ)) (file other calls : List ℕ) (options : Options) → asked.AsksToMigrate words file options → asked.AsksToRun words other calls → ⊥
+migrate-no_run words file other calls options m r =
+    let a = first-word words (Migrate file options) m in
     let b = first-word words (Run other calls None) r in
     let odd : codes "migrate" ∷ a.0 ≡ codes "run" ∷ b.0 = sym a.1 ∙ b.1 in
     cc

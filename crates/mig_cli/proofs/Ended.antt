@@ -25,7 +25,7 @@ run-spared file calls before after plan (running.played job gave bytes got text 
 outcome-spared : (words : List (List ℕ)) (before after : Inputs) (plan : Plan) → spec.IsOutcome words before after plan → plan.status ≢ status.Done → Spares before after
 outcome-spared words before after plan (spec.refused e h asks same is) other = same
 outcome-spared words before after plan (spec.unbuilt command h none asks same is) other = same
-outcome-spared words before after plan (spec.migrated file asked asks same h) other = same
+outcome-spared words before after plan (spec.migrated file options asked asks same h) other = same
 outcome-spared words before after plan (spec.run file calls asked h) other = run-spared file calls before after plan h other
 
 -- a store that does not fail has not failed

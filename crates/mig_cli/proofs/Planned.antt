@@ -5,7 +5,6 @@ use Rattle.std.proofs.lemmas.List.{take_all}
 use Rattle.std.specs.declared.alloc.AllocError.{AllocError}
 use Rattle.mig_schema.specs.declared.faults.TypeFault.{TypeFault}
 use Rattle.mig_schema.specs.declared.jobs.Job.{Job}
-use Rattle.mig_schema.specs.Plain.{IsPlain}
 use Rattle.mig_schema.specs.declared.limits.Limit.{Limit}
 use Rattle.mig_schema.specs.declared.limits.Limit.TheVariants.{Pairs}
 use Rattle.mig_tokens.specs.Refused.{StandsWrong, StandsPast}
@@ -23,12 +22,12 @@ use Rattle.mig_store.specs.declared.faults.CallsFault.{CallsFault}
 use Rattle.mig_store.specs.declared.play_faults.PlayFault.{PlayFault}
 use Rattle.mig_store.specs.declared.play_faults.PlayFault.TheVariants as play_fault
 use Rattle.mig_store.specs.Playing.{calls_in, IsPlayed, IsRefused}
-use Rattle.mig_messages.specs.declared.status.Status.TheVariants as status
+use Rattle.mig_search.specs.declared.outcomes.Options.{Options}
 use Rattle.mig_messages.specs.Statuses.{calls_status, fault_status}
 use Rattle.mig_messages.specs.Lines as lines
 use Rattle.mig_messages.specs.CallLines as call_lines
 use Rattle.mig_cli.specs.declared.planning.Plan.{Plan}
-use Rattle.mig_cli.specs.Plans.{answered, refusal}
+use Rattle.mig_cli.specs.Plans.{refusal}
 use Rattle.mig_cli.specs.World.{FilesMeaning, Inputs}
 use Rattle.mig_cli.specs.Jobs as jobs
 use Rattle.mig_cli.specs.Migrating as migrating
@@ -80,19 +79,14 @@ module _ (file : List ℕ) (before after : FilesMeaning) where
   -- ---- migrating
 
   -- a file without a job is migrated to its refusal
-  pub not-migrated : (p : Plan) → spec.IsNoJob file before after p → spec.IsMigratePlan file before after p
-  not-migrated p (spec.unread h) = spec.unread h
-  not-migrated p (spec.refused h) = spec.migrated (migrating.refused h)
+  pub not-migrated : (options : Options) (p : Plan) → spec.IsNoJob file before after p → spec.IsMigratePlan file options before after p
+  not-migrated options p (spec.unread h) = spec.unread h
+  not-migrated options p (spec.refused h) = spec.migrated (migrating.refused h)
 
   -- the plan of a job that was read
-  pub migrated : (job : Job) (r : Result Plan AllocError) → jobs.GaveJob before.told file job
-      → IfOk r (λ p. IsPlain job → p ≡ answered (migrating.answer job) lines.found)
-      → IfOk r (λ p. (IsPlain job → ⊥) → p ≡ refusal status.Text (lines.not_built file))
-      → IfOk r (λ p. IsPlain job ⊎ (IsPlain job → ⊥))
-      → IfOk r (spec.IsMigratePlan file before after)
-  migrated job (Ok p) gave plain other (inl is) = spec.migrated (migrating.done job gave is (plain is))
-  migrated job (Ok p) gave plain other (inr is) = spec.migrated (migrating.not_plain job gave is (other is))
-  migrated job (Err a) gave plain other either = tt
+  pub migrated : (options : Options) (job : Job) (r : Result Plan AllocError) → jobs.GaveJob before.told file job → IfOk r (migrating.IsSearched job options) → IfOk r (spec.IsMigratePlan file options before after)
+  migrated options job (Ok p) gave h = spec.migrated (migrating.searched job gave h)
+  migrated options job (Err a) gave h = tt
 
 -- ---- running
 

@@ -1,5 +1,12 @@
 -- Which statuses the outcome has.
 use Rattle.std.proofs.Common.{◌≡◌, ◌≢◌, ℕ, List, refl, sym, ap, ◌∙◌, subst}
+use Rattle.mig_schema.specs.declared.jobs.Job.{Job}
+use Rattle.mig_schema.specs.declared.programs.Program.{Program}
+use Rattle.mig_certificate.specs.declared.proofs.Certificate.{Certificate}
+use Rattle.mig_search.specs.declared.outcomes.Options.{Options}
+use Rattle.mig_search.specs.declared.outcomes.Outcome.{Outcome}
+use Rattle.mig_search.specs.declared.outcomes.Outcome.TheVariants.{Found, Exhausted, Spent}
+use Rattle.mig_search.specs.declared.outcomes.Tried.{Tried}
 use Rattle.mig_syntax.specs.declared.fault.TextFault.{TextFault}
 use Rattle.mig_syntax.specs.declared.fault.TextFault.TheVariants as text
 use Rattle.mig_store.specs.declared.faults.CallsFault.{CallsFault}
@@ -14,13 +21,13 @@ use Rattle.mig_cli.specs.Migrating as migrating
 use Rattle.mig_cli.specs.Running as running
 use Rattle.mig_cli.specs.Desk as spec
 
--- a status of an outcome: no fault's, and none of a search or a verdict
+-- a status of an outcome: no fault's, and none of a verdict
 abbrev pub IsKnown : Status → Type 0
 IsKnown status.Done = Unit {0}
 IsKnown status.Words = Unit {0}
 IsKnown status.Text = Unit {0}
-IsKnown status.Exhausted = ⊥
-IsKnown status.Spent = ⊥
+IsKnown status.Exhausted = Unit {0}
+IsKnown status.Spent = Unit {0}
 IsKnown status.Rejected = ⊥
 IsKnown status.File = ⊥
 IsKnown status.Sink = ⊥
@@ -53,10 +60,18 @@ calls-known (calls.Arity at) other = tt
 calls-known (calls.Value at field) other = tt
 calls-known calls.Limit other = tt
 
-migrated-known : (told : Holdings) (file : List ℕ) (plan : Plan) → migrating.IsMigrated told file plan → IsKnown plan.status
-migrated-known told file plan (migrating.refused h) = job-known told file plan h
-migrated-known told file plan (migrating.not_plain job gave other is) = known-as plan _ is tt
-migrated-known told file plan (migrating.done job gave plain is) = known-as plan _ is tt
+found-known : (job : Job) (program : Program) (certificate : Certificate) (tried : List Tried) (plan : Plan) → migrating.IsFound job program certificate tried plan → IsKnown plan.status
+found-known job program certificate tried plan (migrating.short few is) = known-as plan _ is tt
+found-known job program certificate tried plan (migrating.long many is) = known-as plan _ is tt
+
+told-known : (job : Job) (outcome : Outcome) (plan : Plan) → migrating.Tells job outcome plan → IsKnown plan.status
+told-known job (Found program certificate tried) plan h = found-known job program certificate tried plan h.1
+told-known job (Exhausted tried) plan h = known-as plan _ h tt
+told-known job (Spent tried) plan h = known-as plan _ h tt
+
+migrated-known : (told : Holdings) (file : List ℕ) (options : Options) (plan : Plan) → migrating.IsMigrated told file options plan → IsKnown plan.status
+migrated-known told file options plan (migrating.refused h) = job-known told file plan h
+migrated-known told file options plan (migrating.searched job gave h) = told-known job h.outcome plan h.tells
 
 run-known : (file calls : List ℕ) (before after : Inputs) (plan : Plan) → running.IsRun file calls before after plan → IsKnown plan.status
 run-known file calls before after plan (running.no_job h asks same) = job-known before.files.told file plan h
@@ -68,7 +83,7 @@ run-known file calls before after plan (running.played job gave bytes got text h
 pub outcome-known : (words : List (List ℕ)) (before after : Inputs) (plan : Plan) → spec.IsOutcome words before after plan → IsKnown plan.status
 outcome-known words before after plan (spec.refused e h asks same is) = known-as plan _ is tt
 outcome-known words before after plan (spec.unbuilt command h none asks same is) = known-as plan _ is tt
-outcome-known words before after plan (spec.migrated file asked asks same h) = migrated-known before.files.told file plan h
+outcome-known words before after plan (spec.migrated file options asked asks same h) = migrated-known before.files.told file (migrating.search_options options) plan h
 outcome-known words before after plan (spec.run file calls asked h) = run-known file calls before after plan h
 
 -- a known status is none of these

@@ -4,6 +4,8 @@ use Rattle.std.proofs.lemmas.List.{append-nil}
 use Rattle.std.specs.declared.alloc.AllocError.{AllocError}
 use Rattle.mig_words.specs.declared.command.Command.{Command}
 use Rattle.mig_words.specs.declared.command.Command.TheVariants.{Migrate, Run}
+use Rattle.mig_words.specs.declared.command.Options.{Options}
+use Rattle.mig_cli.specs.Migrating.{search_options}
 use Rattle.mig_words.specs.declared.command.WordFault.{WordFault}
 use Rattle.mig_words.specs.declared.command.WordFault.TheVariants as word
 use Rattle.mig_words.specs.Commands.{IsCommand}
@@ -34,11 +36,11 @@ module _ (words : List (List ℕ)) (before after : Inputs) where
 
   -- ---- migrating
 
-  pub migrated : (file : List ℕ) → asked.AsksToMigrate words file → (r : Result Plan AllocError) → after.files.asked ≡ before.files.asked ++ file ∷ [] → Spares before after
-      → IfOk r (planned.IsMigratePlan file before.files after.files) → IfOk r (spec.IsDue words before after)
-  migrated file asks (Ok p) names same (planned.unread u) = spec.unread [] file names tt (Migrate file asks.0, asks.1, inl refl) u.cause same u.is
-  migrated file asks (Ok p) names same (planned.migrated h) = spec.outcome (spec.migrated file asks names same h)
-  migrated file asks (Err e) names same h = tt
+  pub migrated : (file : List ℕ) (options : Options) → asked.AsksToMigrate words file options → (r : Result Plan AllocError) → after.files.asked ≡ before.files.asked ++ file ∷ [] → Spares before after
+      → IfOk r (planned.IsMigratePlan file (search_options options) before.files after.files) → IfOk r (spec.IsDue words before after)
+  migrated file options asks (Ok p) names same (planned.unread u) = spec.unread [] file names tt (Migrate file options, asks, inl refl) u.cause same u.is
+  migrated file options asks (Ok p) names same (planned.migrated h) = spec.outcome (spec.migrated file options asks names same h)
+  migrated file options asks (Err e) names same h = tt
 
   -- ---- running
 

@@ -14,9 +14,9 @@ files_of (Run job calls None) = job ∷ calls ∷ []
 files_of (Run job calls (Some answer)) = []
 files_of (Trial number) = []
 
--- The words ask to migrate the job in this file. Their options change nothing as long as only plain jobs are migrated.
-abbrev pub AsksToMigrate : List (List ℕ) → List ℕ → Type 0
-AsksToMigrate words file = (options : Options) × IsCommand words (Migrate file options)
+-- the words ask to migrate the job in this file, as far as these options go
+abbrev pub AsksToMigrate : List (List ℕ) → List ℕ → Options → Type 0
+AsksToMigrate words file options = IsCommand words (Migrate file options)
 
 -- the words ask to run the old program of the job in the one file on the calls in the other
 abbrev pub AsksToRun : List (List ℕ) → (file calls : List ℕ) → Type 0

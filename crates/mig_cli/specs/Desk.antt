@@ -1,6 +1,7 @@
 -- What the desk answers for its words in a world, and what it leaves there.
 use Rattle.std.specs.Prelude.{◌≡◌, ◌≢◌, ℕ, false, List, [], ◌∷◌, ◌++◌, Some, ◌⊎◌}
 use Rattle.mig_words.specs.declared.command.Command.{Command}
+use Rattle.mig_words.specs.declared.command.Options.{Options}
 use Rattle.mig_words.specs.declared.command.WordFault.{WordFault}
 use Rattle.mig_words.specs.Commands.{IsCommand}
 use Rattle.mig_words.specs.Faults.{IsFault}
@@ -15,7 +16,7 @@ use Rattle.mig_cli.specs.Plans.{refusal}
 use Rattle.mig_cli.specs.World.{Asks, Holdings, Inputs, Outputs, Spares, World}
 use Rattle.mig_cli.specs.Asked.{files_of, AsksToMigrate, AsksToRun, NamesFile}
 use Rattle.mig_cli.specs.Jobs.{GaveJobs}
-use Rattle.mig_cli.specs.Migrating.{IsMigrated}
+use Rattle.mig_cli.specs.Migrating.{IsMigrated, search_options}
 use Rattle.mig_cli.specs.Running.{IsRun, RunFailed}
 
 -- ---- outcomes
@@ -25,7 +26,7 @@ use Rattle.mig_cli.specs.Running.{IsRun, RunFailed}
 pub data IsOutcome (words : List (List ℕ)) (before after : Inputs) (plan : Plan) : Type 0 where
   refused : (e : WordFault) → IsFault words e → Asks before after [] → Spares before after → plan ≡ refusal status.Words (refused_words e) → IsOutcome words before after plan
   unbuilt : (command : Command) → IsCommand words command → files_of command ≡ [] → Asks before after [] → Spares before after → plan ≡ refusal status.Words unbuilt_words → IsOutcome words before after plan
-  migrated : (file : List ℕ) → AsksToMigrate words file → Asks before after (file ∷ []) → Spares before after → IsMigrated before.files.told file plan → IsOutcome words before after plan
+  migrated : (file : List ℕ) (options : Options) → AsksToMigrate words file options → Asks before after (file ∷ []) → Spares before after → IsMigrated before.files.told file (search_options options) plan → IsOutcome words before after plan
   run : (file calls : List ℕ) → AsksToRun words file calls → IsRun file calls before after plan → IsOutcome words before after plan
 
 -- what is to be put: the outcome, or the line on a file that could not be read behind those that gave a job, or the one on a store that failed

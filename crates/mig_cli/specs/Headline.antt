@@ -10,12 +10,13 @@ use Rattle.mig_certificate.specs.declared.proofs.Certificate.{Certificate}
 use Rattle.mig_answer.specs.AnswerText.{answer_text}
 use Rattle.mig_certificate.specs.Valid.{IsValid}
 use Rattle.mig_io.specs.Taken.{and_then}
+use Rattle.mig_words.specs.declared.command.Options.{Options}
 use Rattle.mig_messages.specs.declared.status.Status.TheVariants.{Done}
 use Rattle.mig_messages.specs.Statuses.{number}
 use Rattle.mig_cli.specs.World.{World}
 use Rattle.mig_cli.specs.Asked.{AsksToMigrate}
 use Rattle.mig_cli.specs.Desk.{Tells}
-use Rattle.mig_cli.specs.Spellable.{IsSpellable}
+use Rattle.mig_spelling.specs.Spellable.{IsSpellable}
 
 -- A text is a migration of the job that these bytes spell: the answer with a new program and a certificate.
 -- The grammar of answers spells both; the new program is typed over the new schema and has the old one's functions; the certificate is valid; and for every list of
@@ -37,6 +38,6 @@ pub record IsMigration (bytes text : List ℕ) : Type 0 where
 -- Where files tell what they hold and the words ask to migrate: with the status of what is done, `out` took a migration of the job in the file that the words name, whole.
 abbrev pub Migrates : List (List ℕ) → (before after : World) → ℕ → Type 0
 Migrates words before after result =
-    Tells before.inputs.files.told words → ((file : List ℕ) × AsksToMigrate words file) → result ≡ number Done
-    → (file : List ℕ) × (bytes : List ℕ) × (text : List ℕ) × AsksToMigrate words file × (before.inputs.files.told file ≡ Some bytes)
+    Tells before.inputs.files.told words → ((file : List ℕ) × (options : Options) × AsksToMigrate words file options) → result ≡ number Done
+    → (file : List ℕ) × (options : Options) × (bytes : List ℕ) × (text : List ℕ) × AsksToMigrate words file options × (before.inputs.files.told file ≡ Some bytes)
     × (after.outputs.out.took ≡ and_then before.outputs.out.took text) × IsMigration bytes text

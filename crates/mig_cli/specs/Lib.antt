@@ -5,7 +5,5 @@ pub mod Jobs
 pub mod Migrating
 pub mod Planned
 pub mod Plans
-pub mod Renaming
 pub mod Running
-pub mod Spellable
 pub mod World

@@ -7,6 +7,7 @@ use Rattle.mig_meaning.specs.Lists.{In}
 use Rattle.mig_syntax.specs.declared.fault.TextFault.{TextFault}
 use Rattle.mig_store.specs.declared.faults.CallsFault.{CallsFault}
 use Rattle.mig_store.specs.Playing.{IsPlayed, IsRefused, HasFailed}
+use Rattle.mig_search.specs.declared.outcomes.Options.{Options}
 use Rattle.mig_messages.specs.declared.status.Status.TheVariants as status
 use Rattle.mig_messages.specs.Statuses.{calls_status, fault_status}
 use Rattle.mig_messages.specs.Lines.{cannot_read, fault_line, too_long}
@@ -40,9 +41,9 @@ pub data IsNoJob (file : List ℕ) (before after : FilesMeaning) (plan : Plan) :
   refused : IsRefusedJob before.told file plan → IsNoJob file before after plan
 
 -- what a job's file leads to where it is migrated
-pub data IsMigratePlan (file : List ℕ) (before after : FilesMeaning) (plan : Plan) : Type 0 where
-  unread : IsUnread file before after plan → IsMigratePlan file before after plan
-  migrated : IsMigrated before.told file plan → IsMigratePlan file before after plan
+pub data IsMigratePlan (file : List ℕ) (options : Options) (before after : FilesMeaning) (plan : Plan) : Type 0 where
+  unread : IsUnread file before after plan → IsMigratePlan file options before after plan
+  migrated : IsMigrated before.told file options plan → IsMigratePlan file options before after plan
 
 -- what the bytes of a file of calls lead to
 pub data IsPlayPlan (job : Job) (file bytes : List ℕ) (old new : Meaning) (plan : Plan) : Type 0 where

@@ -63,7 +63,7 @@ fn plan<F: Files, S: Store>(
     match read_words(alloc, words) {
         Err(fault) => refused_plan(alloc, fault),
         Ok(command) => match command {
-            Command::Migrate { job, .. } => migrated_plan(alloc, &job, files),
+            Command::Migrate { job, options } => migrated_plan(alloc, &job, &options, files),
             Command::Run { job, calls, answer } => match answer {
                 None => run_plan(alloc, &job, &calls, files, store),
                 Some(_) => unbuilt_plan(alloc),
@@ -82,13 +82,14 @@ fn plan<F: Files, S: Store>(
 ///
 /// | status | when | on `out` | on `err` |
 /// |---|---|---|---|
-/// | 0 | `migrate`, and the job is plain: one table is renamed | the new program and its certificate | `found: 0 entries` |
+/// | 0 | `migrate`, and the search found a program | the new program and its certificate | entries, then `found: N entries` |
 /// | 0 | `run`, and all calls were played | what the query calls answer | |
 /// | 1 | the words are no command | | `words: ` and their first fault |
 /// | 1 | the command is another | | `words: not built` |
 /// | 2 | the text of the job has a wrong token | | `FILE:LINE:COLUMN: not expected` |
 /// | 2 | the job breaks a typing rule | | `FILE: RULE at A B` |
-/// | 2 | `migrate`, and the typed job is not plain | | `FILE:0:0: not built` |
+/// | 3 | `migrate`, and the search tried all that it was to try | | entries, then `exhausted: N entries` |
+/// | 4 | `migrate`, and the search spent its budget | | entries, then `spent: N entries` |
 /// | 6 | a file could not be read: the count of `files` rose | | `FILE: cannot read` |
 /// | 7 | a sink failed: its count rose | a prefix of its text | nothing, or a prefix where `out` has all of its text |
 /// | 8 | memory ran out | | `out of memory` |
@@ -96,6 +97,7 @@ fn plan<F: Files, S: Store>(
 /// | 10 | the job is longer than 262,144 bytes, or the calls than 8,388,608 | | `FILE: longer than N bytes` |
 /// | 10 | the text of the job passes a limit | | `FILE:LINE: limit NAME` |
 /// | 10 | there are more than 100,000 calls | | `CALLS:0: limit calls` |
+/// | 10 | `migrate`, and the answer is longer than 67,108,864 bytes | | `answer: longer than 67108864 bytes` |
 /// | 11 | a record says no call of the program, and is the first | | `CALLS: record N: WHY` |
 ///
 /// Files are asked for in the order of the words, and none after a refusal. Calls are played only where all of them are

@@ -1,3 +1,4 @@
 pub mod CallLines
+pub mod Entries
 pub mod Lines
 pub mod Statuses

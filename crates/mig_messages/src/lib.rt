@@ -2,11 +2,13 @@
 #![tactic(auto)]
 
 mod call_lines;
+mod entries;
 mod lines;
 mod names;
 mod status;
 
 pub use call_lines::{calls_line, store_failed};
+pub use entries::{exhausted_report, found_report, spent_report};
 pub use lines::{
     cannot_read, fault_line, found, no_memory, not_built, too_long, unbuilt_words, words_line,
 };

@@ -7,4 +7,4 @@ mod words;
 
 pub use parts::{put_col, put_cols, put_join};
 pub use program::{print_program, put_program};
-pub use words::{put, put_number};
+pub use words::{put, put_bytes, put_int, put_number, put_quoted};

@@ -24,15 +24,16 @@ pub fn put_number(out: &mut Txt, number: u32) -> Result<(), AllocError>
     put(out, Buffer::new().format(number))
 }
 
-/// Appends a number in decimal digits, without leading zeros, behind a `-` where it is below 0.
-pub(crate) fn put_int(out: &mut Txt, number: i64) -> Result<(), AllocError>
+/// Appends a number in decimal digits, without leading zeros, behind a `-` where it is below 0. On want of memory nothing
+/// is said of what `out` holds.
+pub fn put_int(out: &mut Txt, number: i64) -> Result<(), AllocError>
     ensures { OnOk result (out.new ≡ out.old ++ signed_decimal number) }
 {
     put(out, Buffer::new().format(number))
 }
 
-/// Appends bytes as they are.
-pub(crate) fn put_bytes(out: &mut Txt, bytes: &[u8]) -> Result<(), AllocError>
+/// Appends bytes as they are. On want of memory nothing is said of what `out` holds.
+pub fn put_bytes(out: &mut Txt, bytes: &[u8]) -> Result<(), AllocError>
     ensures { OnOk result (out.new ≡ out.old ++ bytes.now) }
 {
     out.extend_from_slice(bytes)
@@ -58,8 +59,9 @@ fn put_all_escaped(out: &mut Txt, text: &[u8]) -> Result<(), AllocError>
     Ok(())
 }
 
-/// Appends a text between quotes.
-pub(crate) fn put_quoted(out: &mut Txt, text: &Txt) -> Result<(), AllocError>
+/// Appends a text between quotes; a quote, a backslash and a line feed are escaped. On want of memory nothing is said of
+/// what `out` holds.
+pub fn put_quoted(out: &mut Txt, text: &Txt) -> Result<(), AllocError>
     ensures { OnOk result (out.new ≡ out.old ++ quoted text.now) }
 {
     put(out, "\"")?;

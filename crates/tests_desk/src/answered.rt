@@ -46,21 +46,31 @@ fn a_job_without_functions_has_an_empty_answer(rt: HostRuntime) -> Result<(), Fa
     Ok(())
 }
 
-/// Whether a front of the job is refused at its end; all but the last line feed is as good as the whole.
-fn is_front(alloc: Global, text: &[u8], front: &[u8]) -> Result<bool, AllocError> {
+/// How the fronts of the job end that are jobs: behind `program`, a function, `hints` or a hint.
+const ENDS: [&[u8]; 4] = [b"program", b"\n}", b"hints", b" 100;"];
+
+/// Whether a front of the job is a job, with or without a line feed behind it.
+fn is_job(front: &[u8]) -> bool {
+    let line = match front {
+        [line @ .., b'\n'] => line,
+        _ => front,
+    };
+    ENDS.iter().any(|end| line.ends_with(end))
+}
+
+/// Whether a front of the job is answered, or refused at its end where it is no job.
+fn is_front(alloc: Global, front: &[u8]) -> Result<bool, AllocError> {
     let ended = migrated(alloc, Seq::from_slice(alloc, front)?)?;
-    if front.len() + 1 == text.len() {
-        return Ok(ended.is_answer());
-    }
-    Ok(ended.status == 2 && ended.out.taken().is_empty())
+    let status = if is_job(front) { 0 } else { 2 };
+    Ok(ended.status == status && ended.out.taken().is_empty() == (status == 2))
 }
 
 #[test]
-fn no_front_is_answered_but_that_without_the_last_line_feed(rt: HostRuntime) -> Result<(), Fail> {
+fn a_front_of_a_job_is_answered_where_it_is_a_job(rt: HostRuntime) -> Result<(), Fail> {
     let text = text_of(rt.alloc(), JOB)?;
     let text = text.as_slice();
     for n in 0..text.len() {
-        let right = is_front(rt.alloc(), text, &text[..n])?;
+        let right = is_front(rt.alloc(), &text[..n])?;
         assert!(rt; right, "the first {n} bytes");
     }
     Ok(())

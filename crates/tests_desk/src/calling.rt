@@ -91,6 +91,11 @@ pub(crate) fn ample(alloc: Global) -> Result<MemSink, AllocError> {
     MemSink::new(alloc, 4096, 4096, Seq::new(alloc))
 }
 
+/// A sink with room for the longest answer.
+pub(crate) fn roomy(alloc: Global) -> Result<MemSink, AllocError> {
+    MemSink::new(alloc, 100_000, 4096, Seq::new(alloc))
+}
+
 /// Files that fail at the listed calls, with a text under `job`.
 pub(crate) fn one_file(alloc: Global, fails: &[u64], job: Bytes) -> Result<MemFiles, AllocError> {
     let mut files = MemFiles::new(alloc, Seq::from_slice(alloc, fails)?);

@@ -12,6 +12,8 @@ mod refused;
 #[cfg(test)]
 mod runs;
 #[cfg(test)]
+mod searched;
+#[cfg(test)]
 mod sinks;
 #[cfg(test)]
 mod sizes;

@@ -36,7 +36,7 @@ fn words_and_missing_files_are_refused(rt: HostRuntime) -> Result<(), Fail> {
 }
 
 /// Texts in parts that are not answered, their status and their line.
-const TEXTS: [(&str, u8, &str); 16] = [
+const TEXTS: [(&str, u8, &str); 12] = [
     ("old\ntable t { a: int, }\n", 2, "job:2:19: not expected\n"),
     (
         "OLD|NEW|PROGRAM|hints\nhint user.uid -> person.id 100;\n}",
@@ -88,22 +88,6 @@ const TEXTS: [(&str, u8, &str); 16] = [
         2,
         "job: HintTwice at 2 0\n",
     ),
-    (
-        "OLD|new\ntable user { id: int, nick: text }\n|PROGRAM|hints\nhint user.uid -> user.id 100;\nhint user.nick -> user.nick 100;\n",
-        2,
-        "job:0:0: not built\n",
-    ),
-    (
-        "OLD|NEW|program\nquery all() {\n  select user.uid from user where user.uid = 1;\n}\n|HINTS",
-        2,
-        "job:0:0: not built\n",
-    ),
-    (
-        "OLD|NEW|PROGRAM|hints\nhint user.uid -> person.id 100;\n",
-        2,
-        "job:0:0: not built\n",
-    ),
-    ("OLD|NEW|PROGRAM", 2, "job:0:0: not built\n"),
     ("TABLES|NEW|PROGRAM|HINTS", 10, "job:18: limit tables\n"),
 ];
 

@@ -14,7 +14,7 @@ returns-in-Err-clause-refused g c =
 
 pub returns-in-Migrate-clause-due : goal.returns-in-Migrate-clause-due
 returns-in-Migrate-clause-due g c =
-    migrated _ _ _ c.in-Migrate.job (c.in-Migrate.options, rw c.in-Migrate.is at c.in-Ok.ensures.found) c.migrated_plan.result c.migrated_plan.ensures.asked refl c.migrated_plan.ensures.plan
+    migrated _ _ _ c.in-Migrate.job c.in-Migrate.options (rw c.in-Migrate.is at c.in-Ok.ensures.found) c.migrated_plan.result c.migrated_plan.ensures.asked refl c.migrated_plan.ensures.plan
 
 pub returns-in-Migrate-clause-asked : goal.returns-in-Migrate-clause-asked
 returns-in-Migrate-clause-asked g c = inr (Migrate c.in-Migrate.job c.in-Migrate.options, 1, rw c.in-Migrate.is at c.in-Ok.ensures.found, c.migrated_plan.ensures.asked)

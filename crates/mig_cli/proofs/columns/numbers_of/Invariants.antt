@@ -1,7 +1,0 @@
-use Rattle.std.proofs.Common.{◌≡◌, take}
-use Rattle.mig_base.specs.Lists.{numbered}
-use Rattle.mig_schema.specs.declared.tables.Column.{Column}
-use Rattle.mig_cli.proofs.columns.numbers_of.Given as goal
-
-abbrev pub invariant-loop-n : goal.invariant-loop-n
-invariant-loop-n l = l.list ≡ numbered (λ n (c : Column). record { table = 0; column = n }) 0 (take l.n l.columns)
