@@ -1,0 +1,10 @@
+pub mod Answered
+pub mod Ends
+pub mod FactParts
+pub mod LaterLines
+pub mod Lines
+pub mod PairParts
+pub mod Readers
+pub mod Runs
+pub mod StepParts
+pub mod ViewParts

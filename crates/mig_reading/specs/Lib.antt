@@ -1,0 +1,9 @@
+pub mod IsAnswer
+pub mod Named
+pub mod Pieces
+pub mod ReadingFacts
+pub mod ReadingPairs
+pub mod ReadingWords
+pub mod Shapes
+pub mod Spelling
+pub mod Texts

@@ -1,0 +1,5 @@
+//! Tests of the reading of answers.
+#![tactic(auto)]
+
+#[cfg(test)]
+mod answers;
