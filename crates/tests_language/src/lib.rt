@@ -6,8 +6,6 @@ mod copies;
 #[cfg(test)]
 mod grammar;
 #[cfg(test)]
-mod plain;
-#[cfg(test)]
 mod printing;
 #[cfg(test)]
 mod syntax;

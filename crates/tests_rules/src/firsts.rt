@@ -9,7 +9,7 @@ use std::alloc::{AllocError, Global};
 use std::test::Fail;
 
 /// What is shown of an order, an expression, the first steps in turn, and what they lead to, from which no step follows.
-const CHAINS: [(&str, &str, &str, &str); 7] = [
+const CHAINS: [(&str, &str, &str, &str); 9] = [
     ("nothing to do", "n0 -> 0.0 0.1", "", "n0 -> 0.0 0.1"),
     (
         "an unfolded row is folded",
@@ -40,6 +40,18 @@ const CHAINS: [(&str, &str, &str, &str); 7] = [
         "n0 none( 1=0.0 'a=0.1 ) -> 0.1",
         "split 0 0",
         "n0 1<>0.0 -> 0.1; n0 1=0.0 'a<>0.1 -> 0.1",
+    ),
+    (
+        "the first row that is known to meet a body",
+        "n0 n0 p0=1.1 any( n0 p0=2.1 ) -> 0.0",
+        "found 0 1 1",
+        "n0 n0 p0=1.1 -> 0.0",
+    ),
+    (
+        "a found body is opened out of another",
+        "n0 p0=0.1 any( any( n0 p0=1.1 ) ) -> 0.0",
+        "lift 0 1, found 0 1 0",
+        "n0 p0=0.1 -> 0.0",
     ),
     (
         "two cases are joined, and their numbers go",

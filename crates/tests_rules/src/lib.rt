@@ -12,6 +12,8 @@ mod expressions;
 #[cfg(test)]
 mod firsts;
 #[cfg(test)]
+mod found;
+#[cfg(test)]
 mod given;
 #[cfg(test)]
 mod jobs;

@@ -20,10 +20,20 @@ const UNFOLDED: &str = "o0 -> 0.0 0.1; -> p0 p1";
 const FOLDED: &str = "n0 -> 0.0 0.1; -> p0 p1";
 
 /// Steps, the expressions that they are made on, and those that they lead to.
-const STEPS: [(&str, &str, &str); 3] = [
+const STEPS: [(&str, &str, &str); 5] = [
     ("stage 0 - 0", AFTER_OLD, UNFOLDED),
     ("fold 0 - 0 0", UNFOLDED, FOLDED),
     ("stage 0 - 0", AFTER_NEW, FOLDED),
+    (
+        "stage 0 - 0",
+        "o0@1 o0@1 0~1 -> 0.0 1.0",
+        "o0 o0@1 0~1 -> 0.0 1.0; o0 -> p0 0.0",
+    ),
+    (
+        "stagein 0 0 1",
+        "o0 any( o0@1 0.0=1.0 )",
+        "o0 any( o0 0.0=1.0 ); o0 any( p0=0.0 ) none( o0 0.0=1.0 )",
+    ),
 ];
 
 /// Steps that don't follow from the rows after the update.
@@ -144,7 +154,7 @@ pub(crate) fn leads_to(
 }
 
 #[test]
-fn an_inserted_row_is_folded(rt: HostRuntime) -> Result<(), Fail> {
+fn inserted_rows_are_unfolded_and_folded(rt: HostRuntime) -> Result<(), Fail> {
     let sample = sampled(rt.alloc())?;
     for (used, given, want) in STEPS {
         let right = leads_to(rt.alloc(), &sample, used, given, want)?;

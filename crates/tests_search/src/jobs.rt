@@ -1,4 +1,8 @@
 // Jobs and programs from their texts.
+ghost use Rattle.std.specs.Prelude.{◌≡◌, IfOk};
+ghost use Rattle.mig_schema.specs.Typed.{IsTyped};
+ghost use Rattle.mig_schema.specs.Within.{IsProgramWithin};
+
 use mig_schema::{Job, Program};
 use mig_syntax::{read_job, read_program};
 use std::alloc::{AllocError, Global};
@@ -33,7 +37,10 @@ query getTA(id: int) { select TA.name, Picture.pic from TA join Picture on TA.pi
 ";
 
 /// The job that a text spells; a text that spells none counts as want of memory.
-pub(crate) fn job(alloc: Global, text: &str) -> Result<Job, AllocError> {
+pub(crate) fn job(alloc: Global, text: &str) -> Result<Job, AllocError>
+    ensures typed { IfOk result (λ j. IsTyped j) }
+    ensures within { IfOk result (λ j. IsProgramWithin j.program) }
+{
     let bytes = text.as_bytes();
     if bytes.len() >= 1 << 31 {
         return Err(AllocError);

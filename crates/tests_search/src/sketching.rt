@@ -1,4 +1,5 @@
 // Options and completions that were worked out by hand. A job's hints are the pairs of the correspondence.
+use crate::completing::{digits, told};
 use crate::jobs::job;
 use mig_base::Seq;
 use mig_invariant::{ColPair, Corr};
@@ -97,44 +98,14 @@ const TWICE_JOINED: &str = "query get(a: text) {
 }
 ";
 
-/// A completion by its picks, with the program that it is.
-struct Completion {
-    job: &'static str,
-    picks: &'static [u32],
-    program: &'static str,
-}
-
-const COMPLETIONS: [Completion; 6] = [
-    Completion {
-        job: PICTURES,
-        picks: &[0, 0, 0, 0],
-        program: PICTURES_FIRST,
-    },
-    Completion {
-        job: PICTURES,
-        picks: &[0, 2, 1, 0],
-        program: PICTURES_LAST,
-    },
-    Completion {
-        job: MERGE,
-        picks: &[0, 0, 0],
-        program: MERGED,
-    },
-    Completion {
-        job: LABELS,
-        picks: &[0, 0],
-        program: LABELED,
-    },
-    Completion {
-        job: TWICE,
-        picks: &[0],
-        program: TWICE_ALONE,
-    },
-    Completion {
-        job: TWICE,
-        picks: &[1],
-        program: TWICE_JOINED,
-    },
+/// A job, the picks of a completion, one digit each, and the program that it is.
+const COMPLETIONS: [(&str, &str, &str); 6] = [
+    (PICTURES, "0000", PICTURES_FIRST),
+    (PICTURES, "0210", PICTURES_LAST),
+    (MERGE, "000", MERGED),
+    (LABELS, "00", LABELED),
+    (TWICE, "0", TWICE_ALONE),
+    (TWICE, "1", TWICE_JOINED),
 ];
 
 /// Deletions from one of two tables that share a third: three sets of two tables, and seven of three.
@@ -176,21 +147,15 @@ program
 query one() { select p.a from p; }
 hints hint p.a -> m.a 1;";
 
-/// What a sketch is: how many options each hole has, or what ends it, with the number of the function.
-enum Shape {
-    Sizes(&'static [usize]),
-    Empty(u32),
-    Wide(u32),
-}
-
-const SHAPES: [(&str, Shape); 7] = [
-    (PICTURES, Shape::Sizes(&[1, 3, 2, 1])),
-    (MERGE, Shape::Sizes(&[1, 1, 1])),
-    (TWICE, Shape::Sizes(&[2])),
-    (CUTS, Shape::Sizes(&[3, 10, 10])),
-    (APART, Shape::Empty(1)),
-    (SET_TWICE, Shape::Empty(1)),
-    (STAR, Shape::Wide(0)),
+/// A job, and what its sketch is: how many options each hole has, or what ends it, with the number of the function.
+const SHAPES: [(&str, &str); 7] = [
+    (PICTURES, "1;3;2;1;"),
+    (MERGE, "1;1;1;"),
+    (TWICE, "2;"),
+    (CUTS, "3;10;10;"),
+    (APART, "empty 1"),
+    (SET_TWICE, "empty 1"),
+    (STAR, "wide 0"),
 ];
 
 /// The pairs of these hints.
@@ -211,61 +176,55 @@ fn sketched(alloc: Global, job: &Job) -> Result<Made, AllocError> {
 }
 
 /// Whether the program of these picks is this text.
-fn fills(alloc: Global, job: &Job, plan: &Plan, want: &Completion) -> Result<bool, AllocError> {
-    let choice = Choice {
-        picks: Seq::from_slice(alloc, want.picks)?,
-    };
+fn fills(
+    alloc: Global,
+    job: &Job,
+    plan: &Plan,
+    picks: Seq<u32>,
+    want: &str,
+) -> Result<bool, AllocError> {
+    let choice = Choice { picks };
     if !plan.takes(&choice) {
         return Ok(false);
     }
     let program = fill(alloc, plan, &choice)?;
     let text = print_program(alloc, &job.target, &program)?;
-    Ok(text.as_slice() == want.program.as_bytes())
+    Ok(text.as_slice() == want.as_bytes())
 }
 
-/// Whether a job has this completion.
-fn completes(alloc: Global, want: &Completion) -> Result<bool, AllocError> {
-    let job = job(alloc, want.job)?;
+/// Whether the completion of a job with these picks is this program.
+pub(crate) fn completes(
+    alloc: Global,
+    text: &str,
+    picks: &str,
+    want: &str,
+) -> Result<bool, AllocError> {
+    let job = job(alloc, text)?;
     match sketched(alloc, &job)? {
-        Made::Plan(plan) => fills(alloc, &job, &plan, want),
+        Made::Plan(plan) => fills(alloc, &job, &plan, digits(alloc, picks)?, want),
         _ => Ok(false),
     }
 }
 
-/// Whether the holes have so many options.
-fn has_sizes(plan: &Plan, sizes: &[usize]) -> bool {
-    plan.holes.len() == sizes.len()
-        && plan
-            .holes
-            .as_slice()
-            .iter()
-            .zip(sizes)
-            .all(|(hole, size)| hole.options.len() == *size)
-}
-
-/// Whether the sketch of a job is this.
-fn is_shaped(alloc: Global, text: &str, want: &Shape) -> Result<bool, AllocError> {
+/// Whether the sketch of a job under its hints is this.
+pub(crate) fn is_shaped(alloc: Global, text: &str, want: &str) -> Result<bool, AllocError> {
     let job = job(alloc, text)?;
-    Ok(match (sketched(alloc, &job)?, want) {
-        (Made::Plan(plan), Shape::Sizes(sizes)) => has_sizes(&plan, sizes),
-        (Made::Empty { function }, Shape::Empty(n)) => function == *n,
-        (Made::Wide { function }, Shape::Wide(n)) => function == *n,
-        _ => false,
-    })
+    let made = sketched(alloc, &job)?;
+    Ok(told(alloc, &made)?.as_slice() == want.as_bytes())
 }
 
 #[test]
 fn completions_are_as_by_hand(rt: HostRuntime) -> Result<(), Fail> {
-    for want in &COMPLETIONS {
-        assert!(rt; completes(rt.alloc(), want)?, "{}", want.program);
+    for (text, picks, want) in COMPLETIONS {
+        assert!(rt; completes(rt.alloc(), text, picks, want)?, "{want}");
     }
     Ok(())
 }
 
 #[test]
 fn sketches_are_as_by_hand(rt: HostRuntime) -> Result<(), Fail> {
-    for (text, shape) in &SHAPES {
-        assert!(rt; is_shaped(rt.alloc(), text, shape)?, "{text}");
+    for (text, want) in SHAPES {
+        assert!(rt; is_shaped(rt.alloc(), text, want)?, "{text}");
     }
     Ok(())
 }

@@ -1,4 +1,0 @@
-pub mod Broken
-pub mod Lists
-pub mod Numbered
-pub mod Worked
