@@ -30,6 +30,22 @@ migrate-no_run words file other calls options m r =
     let odd : codes "migrate" ∷ a.0 ≡ codes "run" ∷ b.0 = sym a.1 ∙ b.1 in
     cc
 
+-- nor to check anything
+pub migrate-no_check : (words : List (List ℕ)) (file other answer : List ℕ) (options : Options) → asked.AsksToMigrate words file options → asked.AsksToCheck words other answer → ⊥
+migrate-no_check words file other answer options m k =
+    let a = first-word words (Migrate file options) m in
+    let b = first-word words (Check other answer) k in
+    let odd : codes "migrate" ∷ a.0 ≡ codes "check" ∷ b.0 = sym a.1 ∙ b.1 in
+    cc
+
+-- words that ask to check ask to run nothing
+pub check-no_run : (words : List (List ℕ)) (file answer other calls : List ℕ) → asked.AsksToCheck words file answer → asked.AsksToRun words other calls → ⊥
+check-no_run words file answer other calls k r =
+    let a = first-word words (Check file answer) k in
+    let b = first-word words (Run other calls None) r in
+    let odd : codes "check" ∷ a.0 ≡ codes "run" ∷ b.0 = sym a.1 ∙ b.1 in
+    cc
+
 -- words with a fault ask for nothing
 pub faulty-nothing : (words : List (List ℕ)) (f : WordFault) → f ≢ word.Memory → (r : Result Command WordFault) → r ≡ Err f
     → ((d : Command) → commands.IsCommand words d → (r ≡ Ok d) ⊎ (r ≡ Err word.Memory)) → asked.AsksForNothing words

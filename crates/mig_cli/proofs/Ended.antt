@@ -1,5 +1,5 @@
 -- From what was under way, and was put or cut short, to what the desk promises.
-use Rattle.std.proofs.Common.{◌≡◌, ◌≢◌, ℕ, List, [], ◌∷◌, ◌++◌, ◌⊎◌, inl, inr, sym, ap, ◌∙◌}
+use Rattle.std.proofs.Common.{◌≡◌, ◌≢◌, ℕ, List, [], ◌⊎◌, inl, inr, sym, ap, ◌∙◌}
 use Rattle.mig_messages.specs.declared.status.Status.{Status}
 use Rattle.mig_messages.specs.declared.status.Status.TheVariants as status
 use Rattle.mig_messages.specs.Statuses.{number}
@@ -26,6 +26,7 @@ outcome-spared : (words : List (List ℕ)) (before after : Inputs) (plan : Plan)
 outcome-spared words before after plan (spec.refused e h asks same is) other = same
 outcome-spared words before after plan (spec.unbuilt command h none asks same is) other = same
 outcome-spared words before after plan (spec.migrated file options asked asks same h) other = same
+outcome-spared words before after plan (spec.checked file answer names asked named same h) other = same
 outcome-spared words before after plan (spec.run file calls asked h) other = run-spared file calls before after plan h other
 
 -- a store that does not fail has not failed

@@ -1,5 +1,8 @@
+pub mod CheckPlans
+pub mod Checked
 pub mod Commands
 pub mod Ended
+pub mod Finished
 pub mod Migrated
 pub mod Named
 pub mod NoKeys

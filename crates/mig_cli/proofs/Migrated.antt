@@ -1,9 +1,7 @@
 -- What the desk puts with status 0 where the words ask to migrate is a migration.
-use Rattle.std.proofs.Common.{◌≡◌, ◌≢◌, ℕ, List, Some, inl, inr, sym, ap, refl, ◌∙◌, subst}
+use Rattle.std.proofs.Common.{◌≡◌, ℕ, List, Some, inl, sym, ap, refl, subst}
 use Rattle.mig_schema.specs.declared.jobs.Job.{Job}
 use Rattle.mig_schema.specs.declared.programs.Program.{Program}
-use Rattle.mig_syntax.specs.declared.fault.TextFault.{TextFault}
-use Rattle.mig_syntax.specs.declared.fault.TextFault.TheVariants as fault
 use Rattle.mig_syntax.specs.Job.{IsTypedJobText}
 use Rattle.mig_syntax.proofs.WithinTexts.{job_text}
 use Rattle.mig_meaning.specs.Meeting.{AreTyped}
@@ -23,8 +21,6 @@ use Rattle.mig_search.specs.declared.outcomes.Outcome.TheVariants.{Found, Exhaus
 use Rattle.mig_search.specs.declared.outcomes.Tried.{Tried}
 use Rattle.mig_search.specs.Finds.{IsRightFind}
 use Rattle.mig_messages.specs.declared.status.Status.TheVariants as status
-use Rattle.mig_messages.specs.Statuses.{fault_status, number}
-use Rattle.mig_messages.proofs.Numbers.{number-one}
 use Rattle.mig_cli.specs.declared.planning.Plan.{Plan}
 use Rattle.mig_cli.specs.World.{Holdings, Inputs, World}
 use Rattle.mig_cli.specs.Asked.{AsksToMigrate}
@@ -32,7 +28,8 @@ use Rattle.mig_cli.specs.Jobs as jobs
 use Rattle.mig_cli.specs.Migrating as migrating
 use Rattle.mig_cli.specs.Desk as spec
 use Rattle.mig_cli.specs.Headline.{IsMigration, Migrates}
-use Rattle.mig_cli.proofs.Commands.{migrate-no_run}
+use Rattle.mig_cli.proofs.Commands.{migrate-no_check, migrate-no_run}
+use Rattle.mig_cli.proofs.Finished.{gave-held, put-done, refused-not_done, right-put, status-as}
 use Rattle.mig_cli.proofs.Named.{views-spelled, pairs-spelled, labels-within}
 use Rattle.mig_cli.proofs.NoKeys.{text-no_keys}
 
@@ -79,25 +76,6 @@ answer-migrates bytes job program certificate t r =
       equivalent = valid-equivalent job program certificate r.valid typed law;
     }
 
-never-done : (e : TextFault) → fault_status e ≢ status.Done
-never-done fault.Memory h = cc
-never-done (fault.At row column) h = cc
-never-done (fault.Limit which row) h = cc
-never-done (fault.Typing f) h = cc
-
--- the status of a plan that is another one
-status-as : (plan planned : Plan) → plan ≡ planned → plan.status ≡ status.Done → planned.status ≡ status.Done
-status-as plan planned is done = ap (λ (p : Plan). p.status) (sym is) ∙ done
-
--- no refusal is done
-refused-not_done : (told : Holdings) (file : List ℕ) (plan : Plan) → jobs.IsRefusedJob told file plan → plan.status ≢ status.Done
-refused-not_done told file plan (jobs.long longer is) done = let odd : status.Limit ≡ status.Done = status-as plan _ is done in cc
-refused-not_done told file plan (jobs.faulty bytes e gave first is) done = never-done e (status-as plan _ is done)
-
--- what a file gave that tells what it holds is what it holds
-gave-held : (told : Holdings) (file : List ℕ) (most : ℕ) (bytes held : List ℕ) → told file ≡ Some held → jobs.Gave told file most bytes → bytes ≡ held
-gave-held told file most bytes held is gave = gave.holds held is
-
 -- a program that was found, where its answer is put
 found-done : (bytes : List ℕ) (job : Job) (program : Program) (certificate : Certificate) (tried : List Tried) (plan : Plan) → IsTypedJobText bytes job → plan.status ≡ status.Done → IsRightFind job program certificate → migrating.IsFound job program certificate tried plan → IsMigration bytes plan.text
 found-done bytes job program certificate tried plan t done r (migrating.short few is) =
@@ -125,24 +103,12 @@ outcome-migrates words before after plan tells asks done (spec.unbuilt command h
 outcome-migrates words before after plan tells asks done (spec.migrated file options asked names same h) =
     let t = tells file (Migrate file options, asked, inl refl) in
     (file, options, t.0, asked, t.1, migrated-done before.files.told file t.0 (migrating.search_options options) plan t.1 done h)
+outcome-migrates words before after plan tells asks done (spec.checked file answer names asked named same h) = absurd (migrate-no_check words asks.0 file answer asks.1 asks.2 asked)
 outcome-migrates words before after plan tells asks done (spec.run file calls asked h) = absurd (migrate-no_run words asks.0 file calls asks.1 asks.2 asked)
 
 -- what is right and done is a migration that was put whole
 pub right-migrates : (words : List (List ℕ)) (before after : World) (result : ℕ) → spec.Right words before after result → Migrates words before after result
 right-migrates words before after result right tells asks zero =
-    elim right [
-      | inl six ↦ absurd (let odd : status.File ≡ status.Done = number-one status.File status.Done (sym six ∙ zero) in cc)
-      | inr more ↦ elim more [
-        | inl seven ↦ absurd (let odd : status.Sink ≡ status.Done = number-one status.Sink status.Done (sym seven ∙ zero) in cc)
-        | inr most ↦ elim most [
-          | inl eight ↦ absurd (let odd : status.Memory ≡ status.Done = number-one status.Memory status.Done (sym eight ∙ zero) in cc)
-          | inr last ↦ elim last [
-            | inl nine ↦ absurd (let odd : status.Store ≡ status.Done = number-one status.Store status.Done (sym nine ∙ zero) in cc)
-            | inr put ↦
-                let done = number-one put.0.status status.Done (sym put.1 ∙ zero) in
-                let m = outcome-migrates words before.inputs after.inputs put.0 tells asks done put.2 in
-                (m.0, m.1, m.2, put.0.text, m.3, m.4, put.3.answered, m.5)
-          ]
-        ]
-      ]
-    ]
+    let put = right-put words before after result right zero in
+    let m = outcome-migrates words before.inputs after.inputs put.0 tells asks (put-done words before after result put zero) put.2 in
+    (m.0, m.1, m.2, put.0.text, m.3, m.4, put.3.answered, m.5)

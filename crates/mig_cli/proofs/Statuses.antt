@@ -11,6 +11,8 @@ use Rattle.mig_syntax.specs.declared.fault.TextFault.{TextFault}
 use Rattle.mig_syntax.specs.declared.fault.TextFault.TheVariants as text
 use Rattle.mig_store.specs.declared.faults.CallsFault.{CallsFault}
 use Rattle.mig_store.specs.declared.faults.CallsFault.TheVariants as calls
+use Rattle.mig_checker.specs.declared.verdicts.Verdict.{Verdict}
+use Rattle.mig_checker.specs.declared.verdicts.Verdict.TheVariants.{Accepted, Rejected}
 use Rattle.mig_messages.specs.declared.status.Status.{Status}
 use Rattle.mig_messages.specs.declared.status.Status.TheVariants as status
 use Rattle.mig_messages.specs.Statuses.{calls_status, fault_status}
@@ -18,17 +20,18 @@ use Rattle.mig_cli.specs.declared.planning.Plan.{Plan}
 use Rattle.mig_cli.specs.World.{Holdings, Inputs}
 use Rattle.mig_cli.specs.Jobs as jobs
 use Rattle.mig_cli.specs.Migrating as migrating
+use Rattle.mig_cli.specs.Checking as checking
 use Rattle.mig_cli.specs.Running as running
 use Rattle.mig_cli.specs.Desk as spec
 
--- a status of an outcome: no fault's, and none of a verdict
+-- a status of an outcome: no fault's
 abbrev pub IsKnown : Status → Type 0
 IsKnown status.Done = Unit {0}
 IsKnown status.Words = Unit {0}
 IsKnown status.Text = Unit {0}
 IsKnown status.Exhausted = Unit {0}
 IsKnown status.Spent = Unit {0}
-IsKnown status.Rejected = ⊥
+IsKnown status.Rejected = Unit {0}
 IsKnown status.File = ⊥
 IsKnown status.Sink = ⊥
 IsKnown status.Memory = ⊥
@@ -73,6 +76,26 @@ migrated-known : (told : Holdings) (file : List ℕ) (options : Options) (plan :
 migrated-known told file options plan (migrating.refused h) = job-known told file plan h
 migrated-known told file options plan (migrating.searched job gave h) = told-known job h.outcome plan h.tells
 
+-- a fault of a text that is not want of memory
+fault-known : (e : TextFault) → e ≢ text.Memory → IsKnown (fault_status e)
+fault-known text.Memory other = absurd (other refl)
+fault-known (text.At row column) other = tt
+fault-known (text.Limit which row) other = tt
+fault-known (text.Typing f) other = tt
+
+verdict-known : (v : Verdict) → IsKnown (checking.verdict_plan v).status
+verdict-known Accepted = tt
+verdict-known (Rejected pair obligation step why) = tt
+
+answered-known : (told : Holdings) (job : Job) (file : List ℕ) (plan : Plan) → checking.IsAnswered told job file plan → IsKnown plan.status
+answered-known told job file plan (checking.refused (checking.long longer is)) = known-as plan _ is tt
+answered-known told job file plan (checking.refused (checking.faulty bytes e gave none other is)) = known-as plan _ is (fault-known e other)
+answered-known told job file plan (checking.judged program certificate gave h) = known-as plan _ h.is (verdict-known h.verdict)
+
+checked-known : (told : Holdings) (file answer : List ℕ) (names : List (List ℕ)) (plan : Plan) → checking.IsChecked told file answer names plan → IsKnown plan.status
+checked-known told file answer names plan (checking.no_job h one) = job-known told file plan h
+checked-known told file answer names plan (checking.read job gave h two) = answered-known told job answer plan h
+
 run-known : (file calls : List ℕ) (before after : Inputs) (plan : Plan) → running.IsRun file calls before after plan → IsKnown plan.status
 run-known file calls before after plan (running.no_job h asks same) = job-known before.files.told file plan h
 run-known file calls before after plan (running.long job gave longer asks same is) = known-as plan _ is tt
@@ -84,6 +107,7 @@ pub outcome-known : (words : List (List ℕ)) (before after : Inputs) (plan : Pl
 outcome-known words before after plan (spec.refused e h asks same is) = known-as plan _ is tt
 outcome-known words before after plan (spec.unbuilt command h none asks same is) = known-as plan _ is tt
 outcome-known words before after plan (spec.migrated file options asked asks same h) = migrated-known before.files.told file (migrating.search_options options) plan h
+outcome-known words before after plan (spec.checked file answer names asked named same h) = checked-known before.files.told file answer names plan h
 outcome-known words before after plan (spec.run file calls asked h) = run-known file calls before after plan h
 
 -- a known status is none of these

@@ -3,7 +3,7 @@ use Rattle.std.proofs.Common.{◌≡◌, ◌≢◌, ℕ, List, [], ◌∷◌, �
 use Rattle.std.proofs.lemmas.List.{append-nil}
 use Rattle.std.specs.declared.alloc.AllocError.{AllocError}
 use Rattle.mig_words.specs.declared.command.Command.{Command}
-use Rattle.mig_words.specs.declared.command.Command.TheVariants.{Migrate, Run}
+use Rattle.mig_words.specs.declared.command.Command.TheVariants.{Migrate, Check, Run}
 use Rattle.mig_words.specs.declared.command.Options.{Options}
 use Rattle.mig_cli.specs.Migrating.{search_options}
 use Rattle.mig_words.specs.declared.command.WordFault.{WordFault}
@@ -42,6 +42,14 @@ module _ (words : List (List ℕ)) (before after : Inputs) where
   migrated file options asks (Ok p) names same (planned.migrated h) = spec.outcome (spec.migrated file options asks names same h)
   migrated file options asks (Err e) names same h = tt
 
+  -- ---- checking
+
+  pub checked : (file answer : List ℕ) → asked.AsksToCheck words file answer → (r : Result Plan AllocError) → Spares before after
+      → IfOk r (planned.IsCheckPlan file answer before.files after.files) → IfOk r (spec.IsDue words before after)
+  checked file answer asks (Ok p) same (planned.unread earlier last names sound one u) = spec.unread earlier last names sound (Check file answer, asks, one) u.cause same u.is
+  checked file answer asks (Ok p) same (planned.checked names named h) = spec.outcome (spec.checked file answer names asks named same h)
+  checked file answer asks (Err e) same h = tt
+
   -- ---- running
 
   pub run : (file calls : List ℕ) → asked.AsksToRun words file calls → (r : Result Plan AllocError) → IfOk r (planned.IsRunPlan file calls before after) → IfOk r (spec.IsDue words before after)
@@ -59,6 +67,11 @@ module _ (words : List (List ℕ)) (before after : Inputs) where
 pub run-names : (words before after : List (List ℕ)) (file calls : List ℕ) → asked.AsksToRun words file calls → (after ≡ before ++ file ∷ []) ⊎ (after ≡ before ++ file ∷ calls ∷ []) → asked.AskedFirst words before after
 run-names words before after file calls asks (inl e) = inr (Run file calls None, 1, asks, e)
 run-names words before after file calls asks (inr e) = inr (Run file calls None, 2, asks, e)
+
+-- so are those of a check
+pub check-names : (words before after : List (List ℕ)) (file answer : List ℕ) → asked.AsksToCheck words file answer → (after ≡ before ++ file ∷ []) ⊎ (after ≡ before ++ file ∷ answer ∷ []) → asked.AskedFirst words before after
+check-names words before after file answer asks (inl e) = inr (Check file answer, 1, asks, e)
+check-names words before after file answer asks (inr e) = inr (Check file answer, 2, asks, e)
 
 -- what is said of refused words is said of their plan
 pub none-named : (Told : Type 0) (f : WordFault) → (f ≢ word.Memory → Told) → (r : Result Plan AllocError)

@@ -9,7 +9,7 @@ use Rattle.mig_words.specs.Commands.{IsCommand}
 -- the files that a command reads, in order; the work of some commands is not there yet, and reads none
 abbrev pub files_of : Command → List (List ℕ)
 files_of (Migrate job options) = job ∷ []
-files_of (Check job answer) = []
+files_of (Check job answer) = job ∷ answer ∷ []
 files_of (Run job calls None) = job ∷ calls ∷ []
 files_of (Run job calls (Some answer)) = []
 files_of (Trial number) = []
@@ -17,6 +17,10 @@ files_of (Trial number) = []
 -- the words ask to migrate the job in this file, as far as these options go
 abbrev pub AsksToMigrate : List (List ℕ) → List ℕ → Options → Type 0
 AsksToMigrate words file options = IsCommand words (Migrate file options)
+
+-- the words ask to check, for the job in the one file, the answer in the other
+abbrev pub AsksToCheck : List (List ℕ) → (file answer : List ℕ) → Type 0
+AsksToCheck words file answer = IsCommand words (Check file answer)
 
 -- the words ask to run the old program of the job in the one file on the calls in the other
 abbrev pub AsksToRun : List (List ℕ) → (file calls : List ℕ) → Type 0

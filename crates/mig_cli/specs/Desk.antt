@@ -14,19 +14,21 @@ use Rattle.mig_messages.specs.CallLines.{store_failed}
 use Rattle.mig_cli.specs.declared.planning.Plan.{Plan}
 use Rattle.mig_cli.specs.Plans.{refusal}
 use Rattle.mig_cli.specs.World.{Asks, Holdings, Inputs, Outputs, Spares, World}
-use Rattle.mig_cli.specs.Asked.{files_of, AsksToMigrate, AsksToRun, NamesFile}
+use Rattle.mig_cli.specs.Asked.{files_of, AsksToMigrate, AsksToCheck, AsksToRun, NamesFile}
 use Rattle.mig_cli.specs.Jobs.{GaveJobs}
 use Rattle.mig_cli.specs.Migrating.{IsMigrated, search_options}
+use Rattle.mig_cli.specs.Checking.{IsChecked}
 use Rattle.mig_cli.specs.Running.{IsRun, RunFailed}
 
 -- ---- outcomes
 
 -- The outcome of the words, where neither files nor the store nor memory fail: what is put, which names are asked for, and what is left in the store.
--- Where the files tell what they hold and the store its state, these are the defined ones.
+-- Where the files tell what they hold and the store its state, these are the defined ones; but of bytes that are no answer nothing says which of their faults is told.
 pub data IsOutcome (words : List (List ℕ)) (before after : Inputs) (plan : Plan) : Type 0 where
   refused : (e : WordFault) → IsFault words e → Asks before after [] → Spares before after → plan ≡ refusal status.Words (refused_words e) → IsOutcome words before after plan
   unbuilt : (command : Command) → IsCommand words command → files_of command ≡ [] → Asks before after [] → Spares before after → plan ≡ refusal status.Words unbuilt_words → IsOutcome words before after plan
   migrated : (file : List ℕ) (options : Options) → AsksToMigrate words file options → Asks before after (file ∷ []) → Spares before after → IsMigrated before.files.told file (search_options options) plan → IsOutcome words before after plan
+  checked : (file answer : List ℕ) (names : List (List ℕ)) → AsksToCheck words file answer → Asks before after names → Spares before after → IsChecked before.files.told file answer names plan → IsOutcome words before after plan
   run : (file calls : List ℕ) → AsksToRun words file calls → IsRun file calls before after plan → IsOutcome words before after plan
 
 -- what is to be put: the outcome, or the line on a file that could not be read behind those that gave a job, or the one on a store that failed

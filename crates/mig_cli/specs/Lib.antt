@@ -1,4 +1,5 @@
 pub mod Asked
+pub mod Checking
 pub mod Desk
 pub mod Headline
 pub mod Jobs

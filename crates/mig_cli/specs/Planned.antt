@@ -1,10 +1,14 @@
 -- What the plan of a call says, from a file's bytes up to the whole command.
-use Rattle.std.specs.Prelude.{◌≡◌, ℕ, List, [], ◌∷◌, ◌++◌}
+use Rattle.std.specs.Prelude.{◌≡◌, ◌≢◌, ℕ, List, [], ◌∷◌, ◌++◌}
 use Rattle.mig_schema.specs.declared.jobs.Job.{Job}
+use Rattle.mig_schema.specs.declared.programs.Program.{Program}
 use Rattle.mig_io.specs.Counts.{Rose}
 use Rattle.mig_storage.specs.Meaning.{Meaning}
 use Rattle.mig_meaning.specs.Lists.{In}
 use Rattle.mig_syntax.specs.declared.fault.TextFault.{TextFault}
+use Rattle.mig_syntax.specs.declared.fault.TextFault.TheVariants.{Memory}
+use Rattle.mig_certificate.specs.declared.proofs.Certificate.{Certificate}
+use Rattle.mig_reading.specs.IsAnswer.{IsAnswer}
 use Rattle.mig_store.specs.declared.faults.CallsFault.{CallsFault}
 use Rattle.mig_store.specs.Playing.{IsPlayed, IsRefused, HasFailed}
 use Rattle.mig_search.specs.declared.outcomes.Options.{Options}
@@ -17,6 +21,7 @@ use Rattle.mig_cli.specs.Plans.{answered, refusal}
 use Rattle.mig_cli.specs.World.{Asks, FilesMeaning, Inputs, Spares}
 use Rattle.mig_cli.specs.Jobs.{Gave, GaveJobs, IsLonger, IsTextFault, IsRefusedJob}
 use Rattle.mig_cli.specs.Migrating.{IsMigrated}
+use Rattle.mig_cli.specs.Checking.{IsAnswered, IsChecked, IsJudged, IsNoAnswer}
 use Rattle.mig_cli.specs.Running.{calls_cap, IsRun, RunFailed}
 
 -- the file could not be read
@@ -44,6 +49,22 @@ pub data IsNoJob (file : List ℕ) (before after : FilesMeaning) (plan : Plan) :
 pub data IsMigratePlan (file : List ℕ) (options : Options) (before after : FilesMeaning) (plan : Plan) : Type 0 where
   unread : IsUnread file before after plan → IsMigratePlan file options before after plan
   migrated : IsMigrated before.told file options plan → IsMigratePlan file options before after plan
+
+-- what the bytes of an answer's file lead to over a job
+pub data IsReadPlan (job : Job) (file bytes : List ℕ) (plan : Plan) : Type 0 where
+  faulty : (e : TextFault) → IsNoAnswer job bytes → e ≢ Memory → plan ≡ refusal (fault_status e) (fault_line file e) → IsReadPlan job file bytes plan
+  judged : (program : Program) (certificate : Certificate) → IsAnswer job bytes program certificate → IsJudged job program certificate plan → IsReadPlan job file bytes plan
+
+-- what an answer's file leads to over a job
+pub data IsAnswerPlan (job : Job) (file : List ℕ) (before after : FilesMeaning) (plan : Plan) : Type 0 where
+  unread : IsUnread file before after plan → IsAnswerPlan job file before after plan
+  read : IsAnswered before.told job file plan → IsAnswerPlan job file before after plan
+
+-- what a job's file and an answer's file lead to where the answer is checked
+pub data IsCheckPlan (file answer : List ℕ) (before after : FilesMeaning) (plan : Plan) : Type 0 where
+  unread : (earlier : List (List ℕ)) (last : List ℕ) → after.asked ≡ before.asked ++ (earlier ++ last ∷ []) → GaveJobs before.told earlier → In last (file ∷ answer ∷ [])
+      → IsUnread last before after plan → IsCheckPlan file answer before after plan
+  checked : (names : List (List ℕ)) → after.asked ≡ before.asked ++ names → IsChecked before.told file answer names plan → IsCheckPlan file answer before after plan
 
 -- what the bytes of a file of calls lead to
 pub data IsPlayPlan (job : Job) (file bytes : List ℕ) (old new : Meaning) (plan : Plan) : Type 0 where

@@ -1,6 +1,7 @@
 //! The desk: from the words of a command line to what is written.
 #![tactic(auto)]
 
+mod checking;
 mod ending;
 mod migrating;
 mod planning;

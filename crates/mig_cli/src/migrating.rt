@@ -24,7 +24,7 @@ use mig_words::Options as Asked;
 use std::alloc::{AllocError, Global};
 
 /// The greatest length of an answer, in bytes.
-const ANSWER_CAP: u32 = 67108864;
+pub const ANSWER_CAP: u32 = 67108864;
 
 /// How far the words ask the search to go.
 fn search_options(options: &Asked) -> Options

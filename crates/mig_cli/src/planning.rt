@@ -67,8 +67,8 @@ pub fn fetched<F: Files>(
     }
 }
 
-/// The plan for bytes that spell no typed job within the limits.
-fn faulty_plan(alloc: Global, file: &Word, fault: TextFault) -> Result<Plan, AllocError>
+/// The plan for bytes that are no job, or no answer, of which this fault is told.
+pub fn faulty_plan(alloc: Global, file: &Word, fault: TextFault) -> Result<Plan, AllocError>
     ensures { IfOk result (λ p. (fault ≢ TextFault.Memory) × (p ≡ plans.refusal (statuses.fault_status fault) (lines.fault_line file.now fault))) }
 {
     let report = fault_line(alloc, file, fault)?;

@@ -7,11 +7,12 @@ ghost use Rattle.mig_messages.specs.Lines as lines;
 ghost use Rattle.mig_messages.specs.Statuses.{number};
 ghost use Rattle.mig_cli.specs.Asked as asked;
 ghost use Rattle.mig_cli.specs.Desk as spec;
-ghost use Rattle.mig_cli.specs.Headline.{Migrates};
+ghost use Rattle.mig_cli.specs.Headline.{Checks, Migrates};
 ghost use Rattle.mig_cli.specs.Plans as plans;
 ghost use Rattle.mig_cli.specs.Running.{IsLeft};
 ghost use Rattle.mig_cli.specs.World.{inputs_of, outputs_of, world_of};
 
+use crate::checking::checked_plan;
 use crate::ending::finish;
 use crate::migrating::migrated_plan;
 use crate::planning::{Plan, refusal};
@@ -68,7 +69,7 @@ fn plan<F: Files, S: Store>(
                 None => run_plan(alloc, &job, &calls, files, store),
                 Some(_) => unbuilt_plan(alloc),
             },
-            Command::Check { .. } => unbuilt_plan(alloc),
+            Command::Check { job, answer } => checked_plan(alloc, &job, &answer, files),
             Command::Trial { .. } => unbuilt_plan(alloc),
         },
     }
@@ -77,32 +78,36 @@ fn plan<F: Files, S: Store>(
 /// Does what the words say, puts an answer on `out` and a report on `err`, and answers the number of its status (`Status`).
 ///
 /// The words are those of a command line without the program's name (`read_words`). The commands whose work is there are
-/// `migrate FILE`, with its options, and `run FILE CALLS`; FILE holds a job (`read_job`), and CALLS calls of its program
-/// (`read_calls`), which are played over the store from empty tables (`play`).
+/// `migrate FILE`, with its options, `check FILE ANSWER` and `run FILE CALLS`; FILE holds a job (`read_job`), ANSWER an answer
+/// over it (`read_answer`), of which the checker gives its verdict (`check`), and CALLS calls of its program (`read_calls`),
+/// which are played over the store from empty tables (`play`).
 ///
 /// | status | when | on `out` | on `err` |
 /// |---|---|---|---|
 /// | 0 | `migrate`, and the search found a program | the new program and its certificate | entries, then `found: N entries` |
+/// | 0 | `check`, and the certificate of the answer is valid | `accepted` | |
 /// | 0 | `run`, and all calls were played | what the query calls answer | |
 /// | 1 | the words are no command | | `words: ` and their first fault |
 /// | 1 | the command is another | | `words: not built` |
 /// | 2 | the text of the job has a wrong token | | `FILE:LINE:COLUMN: not expected` |
 /// | 2 | the job breaks a typing rule | | `FILE: RULE at A B` |
+/// | 2 | `check`, and the text of the answer is none over the job, in its one spelling | | as for a job, with ANSWER for FILE |
 /// | 3 | `migrate`, and the search tried all that it was to try | | entries, then `exhausted: N entries` |
 /// | 4 | `migrate`, and the search spent its budget | | entries, then `spent: N entries` |
+/// | 5 | `check`, and the certificate is not valid | | `rejected: pair P obligation O step S: WHY`, its first broken place |
 /// | 6 | a file could not be read: the count of `files` rose | | `FILE: cannot read` |
 /// | 7 | a sink failed: its count rose | a prefix of its text | nothing, or a prefix where `out` has all of its text |
 /// | 8 | memory ran out | | `out of memory` |
 /// | 9 | `run`, the calls are sound, and the store failed: its count rose, or it was broken before | | `store failed` |
-/// | 10 | the job is longer than 262,144 bytes, or the calls than 8,388,608 | | `FILE: longer than N bytes` |
-/// | 10 | the text of the job passes a limit | | `FILE:LINE: limit NAME` |
+/// | 10 | the job is longer than 262,144 bytes, the calls than 8,388,608, or the answer than 67,108,864 | | `FILE: longer than N bytes` |
+/// | 10 | the text of the job, or of the answer, passes a limit | | `FILE:LINE: limit NAME` |
 /// | 10 | there are more than 100,000 calls | | `CALLS:0: limit calls` |
 /// | 10 | `migrate`, and the answer is longer than 67,108,864 bytes | | `answer: longer than 67108864 bytes` |
 /// | 11 | a record says no call of the program, and is the first | | `CALLS: record N: WHY` |
 ///
 /// Files are asked for in the order of the words, and none after a refusal. Calls are played only where all of them are
 /// sound. After `run` with 7, 8 or 9 the store tells the state at entry, or that after the first n calls, none left out,
-/// or it is broken; a call that ends otherwise than with 0, 7, 8 or 9 leaves it alone, and so does every `migrate`.
+/// or it is broken; a call that ends otherwise than with 0, 7, 8 or 9 leaves it alone, and so does every `migrate` and `check`.
 ///
 /// No transaction may be begun in the store, unless it is broken; so it is left.
 ///
@@ -120,6 +125,10 @@ pub fn desk<F: Files, W: Sink, E: Sink, S: Store>(
     ensures migrates { let before = world_of F.Files W.Sink E.Sink S.Store files.old out.old err.old store.old in
         let after = world_of F.Files W.Sink E.Sink S.Store files.new out.new err.new store.new in
         Migrates words.now before after result }
+    // Where it checks and ends with 0, `out` took the line that accepts, and the answer's text is valid for the job's: its program does what the old one did.
+    ensures checks { let before = world_of F.Files W.Sink E.Sink S.Store files.old out.old err.old store.old in
+        let after = world_of F.Files W.Sink E.Sink S.Store files.new out.new err.new store.new in
+        Checks words.now before after result }
     // Right answers: whatever failed, a status other than 6, 7, 8 and 9 is the outcome's, which was put whole.
     ensures right { let before = world_of F.Files W.Sink E.Sink S.Store files.old out.old err.old store.old in
         let after = world_of F.Files W.Sink E.Sink S.Store files.new out.new err.new store.new in

@@ -6,6 +6,7 @@ mod entries;
 mod lines;
 mod names;
 mod status;
+mod verdict_lines;
 
 pub use call_lines::{calls_line, store_failed};
 pub use entries::{exhausted_report, found_report, spent_report};
@@ -13,3 +14,4 @@ pub use lines::{
     cannot_read, fault_line, found, no_memory, not_built, too_long, unbuilt_words, words_line,
 };
 pub use status::{Status, calls_status, fault_status};
+pub use verdict_lines::{accepted, rejected_line};

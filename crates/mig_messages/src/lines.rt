@@ -34,7 +34,7 @@ pub fn unbuilt_words() -> &'static str
 }
 
 /// Appends what is wrong with words, and a number.
-fn put_numbered(out: &mut Txt, text: &str, number: u32) -> Result<(), AllocError>
+pub(crate) fn put_numbered(out: &mut Txt, text: &str, number: u32) -> Result<(), AllocError>
     ensures { OnOk result (out.new ≡ out.old ++ spec.numbered text.now number) }
 {
     put(out, text)?;

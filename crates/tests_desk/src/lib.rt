@@ -6,7 +6,11 @@ mod answered;
 #[cfg(test)]
 mod calling;
 #[cfg(test)]
+mod checked;
+#[cfg(test)]
 mod files;
+#[cfg(test)]
+mod forged;
 #[cfg(test)]
 mod refused;
 #[cfg(test)]

@@ -4,7 +4,7 @@ use std::alloc::{AllocError, Global};
 use std::test::Fail;
 
 /// Words, a bar before each, their status and their line. No other file than `job` is there.
-const WORDS: [(&str, u8, &str); 14] = [
+const WORDS: [(&str, u8, &str); 16] = [
     ("", 1, "words: no command\n"),
     ("|move", 1, "words: unknown word 1\n"),
     ("|migrate", 1, "words: missing\n"),
@@ -12,7 +12,9 @@ const WORDS: [(&str, u8, &str); 14] = [
     ("|migrate|a|--budget|0", 1, "words: number at 4\n"),
     ("|migrate|a|--budget|5|--budget|5", 1, "words: twice at 5\n"),
     ("|check|job", 1, "words: missing\n"),
-    ("|check|job|job", 1, "words: not built\n"),
+    ("|check|job|job", 2, "job:1:1: not expected\n"),
+    ("|check|job|jo", 6, "jo: cannot read\n"),
+    ("|check|jo|job", 6, "jo: cannot read\n"),
     ("|run|job|jo", 6, "jo: cannot read\n"),
     ("|run|jo|job", 6, "jo: cannot read\n"),
     ("|run|job|job|job", 1, "words: not built\n"),

@@ -4,6 +4,7 @@ use Rattle.mig_messages.specs.Lines.{no_memory}
 use Rattle.mig_cli.specs.Desk as spec
 use Rattle.mig_cli.specs.Plans.{refusal}
 use Rattle.mig_cli.specs.World.{inputs_of, world_of}
+use Rattle.mig_cli.proofs.Checked.{right-checks}
 use Rattle.mig_cli.proofs.Ended.{alone, complete, file_fault, memory_fault, refused, right, sink_fault, spared, store_fault}
 use Rattle.mig_cli.proofs.Migrated.{right-migrates}
 use Rattle.mig_cli.proofs.Statuses.{due-put}
@@ -68,6 +69,12 @@ returns-in-Ok-clause-migrates g c =
     let before = world_of g.F.Files g.W.Sink g.E.Sink g.S.Store c.args.files.now c.args.out.now c.args.err.now c.args.store.now in
     let after = world_of g.F.Files g.W.Sink g.E.Sink g.S.Store c.plan.new.files c.finish.new.out c.finish.new.err c.plan.new.store in
     right-migrates _ before after _ (returns-in-Ok-clause-right g c)
+
+pub returns-in-Ok-clause-checks : goal.returns-in-Ok-clause-checks
+returns-in-Ok-clause-checks g c =
+    let before = world_of g.F.Files g.W.Sink g.E.Sink g.S.Store c.args.files.now c.args.out.now c.args.err.now c.args.store.now in
+    let after = world_of g.F.Files g.W.Sink g.E.Sink g.S.Store c.plan.new.files c.finish.new.out c.finish.new.err c.plan.new.store in
+    right-checks _ before after _ (returns-in-Ok-clause-right g c)
 
 pub returns-in-Ok-clause-refused : goal.returns-in-Ok-clause-refused
 returns-in-Ok-clause-refused g c =
@@ -135,6 +142,12 @@ returns-in-Err-clause-migrates g c =
     let before = world_of g.F.Files g.W.Sink g.E.Sink g.S.Store c.args.files.now c.args.out.now c.args.err.now c.args.store.now in
     let after = world_of g.F.Files g.W.Sink g.E.Sink g.S.Store c.plan.new.files c.finish-in-Err.new.out c.finish-in-Err.new.err c.plan.new.store in
     right-migrates _ before after _ (returns-in-Err-clause-right g c)
+
+pub returns-in-Err-clause-checks : goal.returns-in-Err-clause-checks
+returns-in-Err-clause-checks g c =
+    let before = world_of g.F.Files g.W.Sink g.E.Sink g.S.Store c.args.files.now c.args.out.now c.args.err.now c.args.store.now in
+    let after = world_of g.F.Files g.W.Sink g.E.Sink g.S.Store c.plan.new.files c.finish-in-Err.new.out c.finish-in-Err.new.err c.plan.new.store in
+    right-checks _ before after _ (returns-in-Err-clause-right g c)
 
 pub returns-in-Err-clause-refused : goal.returns-in-Err-clause-refused
 returns-in-Err-clause-refused g c =

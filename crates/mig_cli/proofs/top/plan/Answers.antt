@@ -2,7 +2,7 @@ use Rattle.std.proofs.Common.{inr, refl}
 use Rattle.mig_words.specs.declared.command.Command.TheVariants.{Migrate}
 use Rattle.mig_cli.specs.World.{inputs_of}
 use Rattle.mig_cli.proofs.Commands.{faulty-nothing}
-use Rattle.mig_cli.proofs.Worded.{left, migrated, none-named, refused, run, run-names, unbuilt}
+use Rattle.mig_cli.proofs.Worded.{check-names, checked, left, migrated, none-named, refused, run, run-names, unbuilt}
 use Rattle.mig_cli.proofs.top.plan.Goals as goal
 
 pub returns-in-Err-clause-due : goal.returns-in-Err-clause-due
@@ -32,7 +32,10 @@ pub returns-in-Run-clause-due : goal.returns-in-Run-clause-due
 returns-in-Run-clause-due g c = unbuilt _ _ _ c.in-Ok.command c.in-Ok.ensures.found (rw (c.in-Run.is, c.in-Some.is) refl) c.unbuilt_plan.result refl refl c.unbuilt_plan.ensures
 
 pub returns-in-Check-clause-due : goal.returns-in-Check-clause-due
-returns-in-Check-clause-due g c = unbuilt _ _ _ c.in-Ok.command c.in-Ok.ensures.found (rw c.in-Check.is refl) c.unbuilt_plan-in-Check.result refl refl c.unbuilt_plan-in-Check.ensures
+returns-in-Check-clause-due g c = checked _ _ _ c.in-Check.job c.in-Check.answer (rw c.in-Check.is at c.in-Ok.ensures.found) c.checked_plan.result refl c.checked_plan.ensures.plan
+
+pub returns-in-Check-clause-asked : goal.returns-in-Check-clause-asked
+returns-in-Check-clause-asked g c = check-names _ _ _ c.in-Check.job c.in-Check.answer (rw c.in-Check.is at c.in-Ok.ensures.found) c.checked_plan.ensures.asked
 
 pub returns-clause-due : goal.returns-clause-due
 returns-clause-due g c = unbuilt _ _ _ c.in-Ok.command c.in-Ok.ensures.found (rw c.in-Trial.is refl) c.unbuilt_plan-in-Trial.result refl refl c.unbuilt_plan-in-Trial.ensures
