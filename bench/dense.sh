@@ -2,8 +2,10 @@
 # Times whole calls of the program on jobs without a comment: one insert of many values, of 16, 64 and 256 kB. Each job is read whole and then refused by a typing rule. Prints, for each size, the processor time of one call of 20 in milliseconds, and the most memory in kilobytes.
 set -eu
 cd "$(dirname "$0")/.."
+. bench/common.sh
+wants python3 "it makes the inputs"
 desk=crates/desk/out/desk
-[ -x "$desk" ] || ./desk migrate examples/rename_with_hints/job >/dev/null 2>&1
+built desk migrate data/job
 work=$(mktemp -d)
 trap 'rm -rf "$work"' EXIT
 for size in 16384 65536 262144; do

@@ -4,16 +4,15 @@
 # most memory in kilobytes.
 set -eu
 cd "$(dirname "$0")/.."
+. bench/common.sh
+wants time "GNU time, as Debian's package time has it"
+wants python3 "its module sqlite3 plays the same calls"
 measure=crates/measure/out/measure
-# `rt run` builds a program anew where it is older than its sources.
-(cd crates/measure && rt run -- reading 16384 1 >/dev/null 2>&1) || {
-    echo "measure could not be built: 'rt all check' says why" >&2
-    exit 1
-}
+built measure reading 16384 1
 for size in 5000 20000; do "$measure" one-table-calls "$size"; done
 for size in 2000 8000; do "$measure" joined-calls "$size"; done
 
-./desk migrate examples/rename_with_hints/job >/dev/null
+built desk migrate data/job
 work=$(mktemp -d)
 trap 'rm -rf "$work"' EXIT
 cat >"$work/job" <<'JOB'

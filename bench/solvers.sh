@@ -3,12 +3,9 @@
 # then the ratio is printed too, and whether both give the same model.
 set -eu
 cd "$(dirname "$0")/.."
+. bench/common.sh
 dimacs=crates/dimacs/out/dimacs
-# `rt run` builds the program anew where it is older than its sources.
-(cd crates/dimacs && rt run -- wcnf <stdin >/dev/null 2>&1) || {
-    echo "dimacs could not be built: 'rt all check' says why" >&2
-    exit 1
-}
+built dimacs wcnf
 work=$(mktemp -d)
 trap 'rm -rf "$work"' EXIT
 

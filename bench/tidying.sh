@@ -2,8 +2,9 @@
 # Times the tidying of sums of terms over 16 variables, up to the most terms and comparisons that an expression has. Prints microseconds.
 set -eu
 cd "$(dirname "$0")/.."
+. bench/common.sh
 measure=crates/measure/out/measure
-[ -x "$measure" ] || (cd crates/measure && rt run -- reading 16384 1 >/dev/null 2>&1)
+built measure reading 16384 1
 for size in "256 1" "256 16" "1 256" "1 1024" "1 4096"; do
     read -r terms comparisons <<<"$size"
     "$measure" tidying "$terms" "$comparisons" 10

@@ -2,8 +2,9 @@
 # Times the listing of link trees on schemas of 16 tables and 32 links, and the typing of programs of 1, 8 and 32 updates. Prints microseconds.
 set -eu
 cd "$(dirname "$0")/.."
+. bench/common.sh
 measure=crates/measure/out/measure
-[ -x "$measure" ] || (cd crates/measure && rt run -- reading 16384 1 >/dev/null 2>&1)
+built measure reading 16384 1
 for shape in star chain ring dense pair four; do
     echo "$shape"
     "$measure" "$shape" 100
