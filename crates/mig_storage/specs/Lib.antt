@@ -6,4 +6,5 @@ pub mod Order
 pub mod Places
 pub mod Props
 pub mod Slots
+pub mod Index
 pub mod VecMeaning

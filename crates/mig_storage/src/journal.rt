@@ -14,7 +14,7 @@ use crate::places::place_of;
 use crate::shelf::Shelf;
 use crate::slots::Slot;
 use crate::undo::Undo;
-use crate::values::{has_value, with_value};
+use crate::values::with_value;
 use mig_base::{Exact, Seq};
 use mig_meaning::{Placed, Row};
 use mig_schema::{Schema, Value};
@@ -35,37 +35,24 @@ fn copied(alloc: Global, slots: &[Slot]) -> Result<Seq<Placed>, AllocError>
     Ok(rows)
 }
 
-/// A copy of each row in these slots whose column has the value.
-fn copied_matching(
-    alloc: Global,
-    slots: &[Slot],
-    column: u32,
-    value: &Value,
-) -> Result<Seq<Placed>, AllocError>
-    ensures { IfOk result (λ rows. rows ≡ filter (λ (p : PlacedRow). spec.value_eq (value_at p column) value.now) (rows_in slots.now)) }
-{
-    let mut rows = Seq::new(alloc);
-    for slot in slots {
-        if let Some(row) = &slot.row {
-            if has_value(row, column, value) {
-                let row = row.twin(alloc)?;
-                rows.push(Placed { id: slot.id, row })?;
-            }
-        }
-    }
-    Ok(rows)
-}
-
-/// Puts another row, or none, in the place of a row, and notes what stood there. There must be room for the note.
-fn replace(shelf: &mut Shelf, changes: &mut Vec<Undo>, table: u32, place: usize, row: Option<Row>)
+/// Puts another row, or none, in the place of a row, and notes what stood there. There must be room for the note. On
+/// want of memory nothing changes.
+fn replace(
+    shelf: &mut Shelf,
+    changes: &mut Vec<Undo>,
+    table: u32,
+    place: usize,
+    row: Option<Row>,
+) -> Result<(), AllocError>
     requires room { vec_len changes.old < vec_capacity changes.old }
     requires table { table < length shelf.old.tables }
     requires place { place < length (slots_at shelf.old table) }
     requires filled { is_some (slice_index_or (slots_at shelf.old table) place no_slot).row ≡ true }
-    ensures shelf { shelf.new ≡ with_slots shelf.old table (with_row_at place row (slots_at shelf.old table)) }
+    ensures ok { OnOk result (shelf.new ≡ with_slots shelf.old table (with_row_at place row (slots_at shelf.old table))) }
+    ensures err { OnErr result (shelf.new ≡ shelf.old) }
     ensures start { undone changes.new.items shelf.new ≡ undone changes.old.items shelf.old }
 {
-    if let Some(old) = shelf.exchange(table, place, row) {
+    if let Some(old) = shelf.change(table, place, row)? {
         let note = Undo::Changed {
             table,
             place,
@@ -73,6 +60,7 @@ fn replace(shelf: &mut Shelf, changes: &mut Vec<Undo>, table: u32, place: usize,
         };
         changes.push(note).unwrap();
     }
+    Ok(())
 }
 
 /// Rows in tables, and the changes since a mark, which can be taken back. Contracts see the state as it is and as it
@@ -138,16 +126,18 @@ impl Journal {
 
     /// A copy of each row of a table whose column has the value.
     pub(crate) fn matching(
-        &self,
+        &mut self,
         alloc: Global,
         table: u32,
         column: u32,
         value: &Value,
     ) -> Result<Seq<Placed>, AllocError>
-        requires { table < length self.now.current.tables }
-        ensures { IfOk result (λ rows. rows ≡ filter (λ (p : PlacedRow). spec.value_eq (value_at p column) value.now) (rows_of self.now.current table)) }
+        requires { table < length self.old.current.tables }
+        ensures rows { IfOk result (λ rows. rows ≡ filter (λ (p : PlacedRow). spec.value_eq (value_at p column) value.now) (rows_of self.old.current table)) }
+        ensures current { self.new.current ≡ self.old.current }
+        ensures start { self.new.start ≡ self.old.start }
     {
-        copied_matching(alloc, self.shelf.slots(table), column, value)
+        self.shelf.matching(alloc, table, column, value)
     }
 
     /// Places a row in a table under the next id, and answers that id. On want of memory nothing changes.
@@ -179,7 +169,7 @@ impl Journal {
         let Some((place, _row)) = place_of(self.shelf.slots(table), id) else {
             return Ok(());
         };
-        replace(&mut self.shelf, &mut self.changes, table, place, None);
+        replace(&mut self.shelf, &mut self.changes, table, place, None)?;
         Ok(())
     }
 
@@ -204,7 +194,7 @@ impl Journal {
             return Ok(());
         };
         let row = with_value(alloc, row, column, value)?;
-        replace(&mut self.shelf, &mut self.changes, table, place, Some(row));
+        replace(&mut self.shelf, &mut self.changes, table, place, Some(row))?;
         Ok(())
     }
 

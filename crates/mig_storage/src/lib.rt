@@ -1,8 +1,11 @@
 //! Stores of rows in tables, under transactions.
 #![tactic(auto)]
 
+mod codes;
 mod fault_store;
 mod faults;
+mod index;
+mod indexes;
 mod journal;
 mod laws;
 mod layouts;

@@ -1,10 +1,14 @@
 // The tables of a store in memory, and the next id.
-ghost use Rattle.std.specs.Prelude.{◌≡◌, ◌^◌, ◌<◌, [], length, slice_index_or, IfOk, OnOk, OnErr};
+ghost use Rattle.std.specs.Prelude.{◌≡◌, ◌^◌, ◌<◌, [], length, filter, slice_index_or, IfOk, OnOk, OnErr};
+ghost use Rattle.mig_meaning.specs.declared.states.Placed.{Placed as PlacedRow};
+ghost use Rattle.mig_meaning.specs.Rows.{value_at};
+ghost use Rattle.mig_meaning.specs.Values as spec;
 
 use crate::slots::{Slot, Slots};
 use crate::undo::Undo;
-use mig_meaning::Row;
-use mig_schema::Schema;
+use mig_base::Seq;
+use mig_meaning::{Placed, Row};
+use mig_schema::{Schema, Value};
 use std::alloc::{AllocError, Global};
 use std::marker::Model;
 
@@ -20,7 +24,7 @@ fn copied(alloc: Global, tables: &[Slots]) -> Result<Vec<Slots>, AllocError>
 }
 
 /// The slots of each table, and the next id.
-#[derive(Debug, Drop)]
+#[derive(Drop)]
 pub(crate) struct Shelf {
     tables: Vec<Slots>,
     next: u64,
@@ -36,7 +40,7 @@ impl Model for Shelf {
 
 impl Shelf {
     ghost use Rattle.mig_storage.specs.Order.{IsOrdered};
-    ghost use Rattle.mig_storage.specs.Slots.{state_on, no_slot, no_tables, empty_shelf, slots_at, with_new, with_slots, with_row_at, undo};
+    ghost use Rattle.mig_storage.specs.Slots.{state_on, no_slot, no_tables, empty_shelf, rows_in, slots_at, with_new, with_slots, with_row_at, undo};
 
     /// No tables. It takes no memory.
     pub(crate) fn new(alloc: Global) -> Shelf
@@ -100,17 +104,36 @@ impl Shelf {
         Ok(())
     }
 
-    /// Puts another row, or none, in a slot of a table, and answers what stood there. Nothing changes where there is no
-    /// such slot.
-    pub(crate) fn exchange(&mut self, table: u32, place: usize, row: Option<Row>) -> Option<Row>
-        ensures row { result ≡ (slice_index_or (slots_at self.old table) place no_slot).row }
-        ensures shelf { self.new ≡ with_slots self.old table (with_row_at place row (slots_at self.old table)) }
+    /// A copy of each row of a table whose column has the value. All slots stay.
+    pub(crate) fn matching(
+        &mut self,
+        alloc: Global,
+        table: u32,
+        column: u32,
+        value: &Value,
+    ) -> Result<Seq<Placed>, AllocError>
+        requires { table < length self.old.tables }
+        ensures rows { IfOk result (λ rows. rows ≡ filter (λ (p : PlacedRow). spec.value_eq (value_at p column) value.now) (rows_in (slots_at self.old table))) }
+        ensures shelf { self.new ≡ self.old }
     {
-        if (table as usize) < self.tables.len() {
-            self.tables[table as usize].exchange(place, row)
-        } else {
-            None
-        }
+        self.tables[table as usize].matching(alloc, column, value)
+    }
+
+    /// Puts another row, or none, in a slot of a table, and answers what stood there. On want of memory nothing
+    /// changes.
+    pub(crate) fn change(
+        &mut self,
+        table: u32,
+        place: usize,
+        row: Option<Row>,
+    ) -> Result<Option<Row>, AllocError>
+        requires table { table < length self.old.tables }
+        requires place { place < length (slots_at self.old table) }
+        ensures row { IfOk result (λ r. r ≡ (slice_index_or (slots_at self.old table) place no_slot).row) }
+        ensures ok { OnOk result (self.new ≡ with_slots self.old table (with_row_at place row (slots_at self.old table))) }
+        ensures err { OnErr result (self.new ≡ self.old) }
+    {
+        self.tables[table as usize].change(place, row)
     }
 
     /// Takes a change back. It takes no memory.
@@ -125,7 +148,9 @@ impl Shelf {
                 self.next = self.next.saturating_sub(1);
             }
             Undo::Changed { table, place, row } => {
-                let _ = self.exchange(table, place, Some(row));
+                if (table as usize) < self.tables.len() {
+                    self.tables[table as usize].put_back(place, row);
+                }
             }
         }
     }

@@ -16,6 +16,8 @@ mod faults;
 #[cfg(test)]
 mod fields;
 #[cfg(test)]
+mod indexed;
+#[cfg(test)]
 mod played;
 #[cfg(test)]
 mod playing;

@@ -133,6 +133,22 @@ query middle(y: int) { select A.x, C.z from A join B on A.id = B.id join C on B.
     answers: "9,last,4\n10\n11\n20\n20\n10,middle,1\n20,q\n11,last,0\n",
 };
 
+/// Rows that are asked for by a text before and after it is set, deleted and added again.
+const ASKED: Played = Played {
+    name: "a set of a column that is asked for",
+    job: "old
+table A { id: int, t: text }
+new
+program
+update add(i: int, t: text) { insert into A { A.id = i, A.t = t }; }
+update move(t: text, u: text) { set A.t = u in A where A.t = t; }
+update cut(t: text) { delete A from A where A.t = t; }
+query ids(t: text) { select A.id from A where A.t = t; }
+",
+    calls: "add,1,a\nadd,2,b\nids,a\nmove,a,b\nids,a\nids,b\ncut,b\nids,b\nadd,3,b\nids,b\n",
+    answers: "2,ids,1\n1\n4,ids,0\n5,ids,2\n1\n2\n7,ids,0\n9,ids,1\n3\n",
+};
+
 /// A function of four statements; each reads the state that the one before it left.
 pub(crate) const FOUR: Played = Played {
     name: "four statements",
@@ -155,4 +171,4 @@ query getB() { select B.id, B.y from B; }
 };
 
 /// All of them.
-pub(crate) const PLAYED: [Played; 8] = [ADDS, CUT, PAIRS, KEYED, MOVE, CASES, PINNED, FOUR];
+pub(crate) const PLAYED: [Played; 9] = [ADDS, CUT, PAIRS, KEYED, MOVE, CASES, PINNED, ASKED, FOUR];

@@ -25,7 +25,7 @@ fn column(alloc: Global, kind: Kind) -> Column
 }
 
 // One table of an int and a text.
-fn schema(alloc: Global) -> Result<Schema, AllocError>
+pub(crate) fn schema(alloc: Global) -> Result<Schema, AllocError>
     ensures { IfOk result (λ s. s ≡ record { tables = (record { name = []; columns = (record { name = []; kind = kind.Int }) ∷ ((record { name = []; kind = kind.Text }) ∷ []) }) ∷ []; links = [] }) }
 {
     let mut columns = Seq::new(alloc);
@@ -42,7 +42,7 @@ fn schema(alloc: Global) -> Result<Schema, AllocError>
     })
 }
 
-fn text(alloc: Global, bytes: &[u8]) -> Result<Value, AllocError>
+pub(crate) fn text(alloc: Global, bytes: &[u8]) -> Result<Value, AllocError>
     requires { length bytes.now ≤ 65535 }
     ensures short { IfOk result IsShort }
     ensures kind { IfOk result (λ v. of_kinds (kind.Text ∷ []) (v ∷ []) ≡ true) }
@@ -50,7 +50,7 @@ fn text(alloc: Global, bytes: &[u8]) -> Result<Value, AllocError>
     Ok(Value::Text(Seq::from_slice(alloc, bytes)?))
 }
 
-fn row(alloc: Global, n: i64, bytes: &[u8]) -> Result<Row, AllocError>
+pub(crate) fn row(alloc: Global, n: i64, bytes: &[u8]) -> Result<Row, AllocError>
     requires { length bytes.now ≤ 65535 }
     ensures texts { IfOk result (λ r. Each IsShort r.values) }
     ensures kinds { IfOk result (λ r. of_kinds (kind.Int ∷ (kind.Text ∷ [])) r.values ≡ true) }
@@ -95,7 +95,7 @@ fn has<S: Store>(alloc: Global, store: &mut S, want: &[(u64, i64)]) -> Result<bo
 }
 
 // Makes the table with one row.
-fn fill<S: Store>(alloc: Global, store: &mut S) -> Result<(), StoreFault>
+pub(crate) fn fill<S: Store>(alloc: Global, store: &mut S) -> Result<(), StoreFault>
     requires { IsAtRest (S.meaning store.old) }
     ensures layout { OnOk result ((S.meaning store.new).layout ≡ (kind.Int ∷ (kind.Text ∷ [])) ∷ []) }
     ensures rest { OnOk result ((S.meaning store.new).begun ≡ false) }

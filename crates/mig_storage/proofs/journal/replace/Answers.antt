@@ -9,6 +9,6 @@ returns-in-Some-clause-start c =
     let shelf = c.args.shelf.now in
     let note = Changed c.args.table c.args.place c.in-Some.old in
     let entries : c.push.new.self.items ≡ c.args.changes.now.items ++ note ∷ [] = search rules in
-    rw (entries, c.exchange.ensures.shelf)
+    rw (entries, c.in_ok-old.ensures.ok)
     (undone-push c.args.changes.now.items note (with_slots shelf c.args.table (with_row_at c.args.place c.args.row (slots_at shelf c.args.table)))
-    ∙ ap (undone c.args.changes.now.items) (undo-changed shelf c.args.table c.args.place c.in-Some.old c.args.row c.requires.table c.requires.place (sym c.in-Some.ensures.row)))
+    ∙ ap (undone c.args.changes.now.items) (undo-changed shelf c.args.table c.args.place c.in-Some.old c.args.row c.requires.table c.requires.place (sym c.in_ok-old.ensures.row ∙ c.in-Some.is)))

@@ -4,4 +4,4 @@ use Rattle.mig_storage.proofs.FitsLemmas.{fits-kinds}
 use Rattle.mig_storage.proofs.vec_store.VecStoreStore.matching.Goals as goal
 
 pub returns-clause-kinds : goal.returns-clause-kinds
-returns-clause-kinds c = rw c.in_ok-matching.ensures (each-filter _ _ _ (fits-kinds c.args.self.now.layout c.args.self.now.journal.current c.args.table c.args.self.now.fits))
+returns-clause-kinds c = rw c.in_ok-matching.ensures.rows (each-filter _ _ _ (fits-kinds c.args.self.now.layout c.args.self.now.journal.current c.args.table c.args.self.now.fits))
