@@ -1,5 +1,6 @@
 pub mod ChangeLemmas
 pub mod JoinLemmas
+pub mod DeepLemmas
 pub mod PinLemmas
 pub mod EffectLemmas
 pub mod ChoiceLemmas

@@ -3,14 +3,13 @@ ghost use Rattle.std.specs.Prelude.{◌≡◌, ℕ, ◌<◌, ◌∷◌, ◌++◌
 ghost use Rattle.mig_meaning.specs.declared.states.Placed.{Placed as PlacedRow};
 ghost use Rattle.mig_meaning.specs.declared.states.State.{State};
 ghost use Rattle.mig_meaning.specs.Lists.{Each};
-ghost use Rattle.mig_storage.specs.Layout.{kinds_at, of_kinds};
 ghost use Rattle.mig_storage.specs.Meaning.{IsSound, Keeps};
-ghost use Rattle.mig_calls.specs.Fits.{ChoiceFits, JoinFits, JoinedFits};
+ghost use Rattle.mig_calls.specs.Fits.{ChoiceFits, JoinedFits};
 ghost use Rattle.mig_calls.specs.Joining as spec;
 
 use mig_base::{Exact, Seq};
 use mig_meaning::{JoinRow, Placed, column_in};
-use mig_schema::{Join, Joined};
+use mig_schema::Joined;
 use mig_storage::{Store, StoreFault};
 use std::alloc::{AllocError, Global};
 
@@ -31,33 +30,31 @@ fn put_longer(
     Ok(())
 }
 
-/// Each choice of rows of earlier tables with each row of a further one that meets its equality.
-fn grown<S: Store>(
+/// A choice of rows of earlier tables with each row of a further one that meets its equality.
+pub(crate) fn grown<S: Store>(
     alloc: Global,
     store: &mut S,
     earlier: &[u32],
     joined: &Joined,
-    choices: &[JoinRow],
+    choice: &JoinRow,
 ) -> Result<Vec<JoinRow>, StoreFault>
     requires joined { JoinedFits (S.meaning store.old).layout earlier.now joined.now }
-    requires choices { Each (ChoiceFits (S.meaning store.old).layout earlier.now) choices.now }
+    requires choice { ChoiceFits (S.meaning store.old).layout earlier.now choice.now }
     requires whole { (S.meaning store.old).broken ≡ false }
     ensures sound { IsSound (S.meaning store.old) (S.meaning store.new) result }
     ensures keeps { Keeps (S.meaning store.old) (S.meaning store.new) }
     ensures fit { IfOk result (λ v. Each (ChoiceFits (S.meaning store.old).layout (earlier.now ++ joined.now.table ∷ [])) v.items) }
-    ensures rows { IfOk result (λ v. (s : State) → (S.meaning store.old).told ≡ Some s → v.items ≡ spec.grown s earlier.now joined.now choices.now) }
+    ensures rows { IfOk result (λ v. (s : State) → (S.meaning store.old).told ≡ Some s → v.items ≡ spec.grown s earlier.now joined.now (choice.now ∷ [])) }
 {
     let mut all = Vec::new(alloc);
-    for choice in choices {
-        let value = column_in(alloc, earlier, choice.as_slice(), joined.left)?;
-        let rows = store.matching(alloc, joined.table, joined.right.column, &value)?;
-        put_longer(alloc, choice, rows, &mut all)?;
-    }
+    let value = column_in(alloc, earlier, choice.as_slice(), joined.left)?;
+    let rows = store.matching(alloc, joined.table, joined.right.column, &value)?;
+    put_longer(alloc, choice, rows, &mut all)?;
     Ok(all)
 }
 
 /// The choices of one row each.
-fn singles(alloc: Global, rows: Seq<Placed>) -> Result<Vec<JoinRow>, AllocError>
+pub(crate) fn singles(alloc: Global, rows: Seq<Placed>) -> Result<Vec<JoinRow>, AllocError>
     ensures { IfOk result (λ v. v.items ≡ map (λ (p : PlacedRow). p ∷ []) rows) }
 {
     let mut all = Vec::new(alloc);
@@ -67,28 +64,4 @@ fn singles(alloc: Global, rows: Seq<Placed>) -> Result<Vec<JoinRow>, AllocError>
         all.push(single)?;
     }
     Ok(all)
-}
-
-/// The choices of one row of each joined table that meet the equalities and begin with these rows of the first table.
-pub(crate) fn choices_from<S: Store>(
-    alloc: Global,
-    store: &mut S,
-    join: &Join,
-    first: Seq<Placed>,
-) -> Result<Vec<JoinRow>, StoreFault>
-    requires join { JoinFits (S.meaning store.old).layout join.now }
-    requires first { Each (λ (p : PlacedRow). of_kinds (kinds_at (S.meaning store.old).layout join.now.first) p.row.values ≡ true) first }
-    requires whole { (S.meaning store.old).broken ≡ false }
-    ensures sound { IsSound (S.meaning store.old) (S.meaning store.new) result }
-    ensures keeps { Keeps (S.meaning store.old) (S.meaning store.new) }
-    ensures rows { IfOk result (λ v. (s : State) → (S.meaning store.old).told ≡ Some s → v.items ≡ spec.grown_all s (join.now.first ∷ []) join.now.more (map (λ (p : PlacedRow). p ∷ []) first)) }
-{
-    let mut tables = Seq::new(alloc);
-    tables.push(join.first)?;
-    let mut choices = singles(alloc, first)?;
-    for joined in join.more.as_slice() {
-        choices = grown(alloc, store, tables.as_slice(), joined, choices.as_slice())?;
-        tables.push(joined.table)?;
-    }
-    Ok(choices)
 }
