@@ -3,7 +3,7 @@ use mig_algebra::{Invariant, Invariants, View};
 use mig_base::Seq;
 use mig_certificate::{Certificate, Claim, Entry, PairProof};
 use mig_rules::{Rule, Step};
-use mig_schema::{ColId, Join, Side};
+use mig_schema::{ColId, Join, Joined, Side};
 use std::alloc::{AllocError, Global};
 
 const RULES: [(&str, Rule); 17] = [
@@ -135,16 +135,42 @@ fn column(word: &str) -> Result<ColId, AllocError> {
     })
 }
 
-/// The view of table 0 alone with these columns.
-fn view(alloc: Global, text: &str) -> Result<View, AllocError> {
-    let mut outs = Seq::new(alloc);
+/// The columns between spaces.
+fn columns(alloc: Global, text: &str) -> Result<Seq<ColId>, AllocError> {
+    let mut columns = Seq::new(alloc);
     for word in text.split_whitespace() {
-        outs.push(column(word)?)?;
+        columns.push(column(word)?)?;
     }
-    let join = Join {
-        first: 0,
-        more: Seq::new(alloc),
+    Ok(columns)
+}
+
+/// The join of a table with that of the right column, by an equality.
+fn joined(word: &str) -> Result<Joined, AllocError> {
+    let (left, right) = word.split_once('=').ok_or(AllocError)?;
+    let left = column(left)?;
+    let right = column(right)?;
+    let table = right.table;
+    Ok(Joined { table, left, right })
+}
+
+/// The join of a table with others, by equalities.
+fn join(alloc: Global, first: u32, text: &str) -> Result<Join, AllocError> {
+    let mut more = Seq::new(alloc);
+    for word in text.split_whitespace() {
+        more.push(joined(word)?)?;
+    }
+    Ok(Join { first, more })
+}
+
+/// Columns as outputs; of the first one's table, or of a join that begins with it, as in `0.1 1.0 on 0.0=1.1`.
+fn view(alloc: Global, text: &str) -> Result<View, AllocError> {
+    let (outs, tables) = text.split_once(" on ").unwrap_or((text, ""));
+    let outs = columns(alloc, outs)?;
+    let first = match outs.get(0) {
+        Some(column) => column.table,
+        None => 0,
     };
+    let join = join(alloc, first, tables)?;
     Ok(View { join, outs })
 }
 
@@ -155,7 +181,7 @@ fn views(alloc: Global, text: &str) -> Result<Invariant, AllocError> {
     Ok(Invariant::Views { source, target })
 }
 
-/// `view 0.0 0.1 is 0.0 0.1`, `unique new 0.0`, `apart old 0.0 0.1` or `within new 0.0 0.1`.
+/// `view 0.0 0.1 is 0.0 0.1`, whose sides may be joins, `unique new 0.0`, `apart old 0.0 0.1` or `within new 0.0 0.1`.
 fn invariant(alloc: Global, text: &str) -> Result<Invariant, AllocError> {
     if let Some(rest) = text.strip_prefix("view ") {
         return views(alloc, rest);

@@ -62,7 +62,7 @@ const CHAINS: [(&str, &str, &str, &str); 9] = [
 ];
 
 /// Whether this is the step, or there is none where none is wanted.
-fn is_step(step: &Option<Step>, want: Option<&Step>) -> bool {
+pub(crate) fn is_step(step: &Option<Step>, want: Option<&Step>) -> bool {
     match (step, want) {
         (Some(step), Some(want)) => step.same(want),
         (None, None) => true,

@@ -1,6 +1,5 @@
 // Bodies that variables outside them meet, worked out by hand.
-use crate::steps::{applied, leads_to, sampled};
-use mig_rules::StepFault;
+use crate::steps::{SAME_TABLE, first_astray, first_followed};
 use std::test::Fail;
 
 /// Steps, the expressions that they are made on, and those that they lead to.
@@ -41,11 +40,7 @@ const FOLLOW: [(&str, &str, &str); 8] = [
 
 #[test]
 fn found_bodies_are_decided(rt: HostRuntime) -> Result<(), Fail> {
-    let sample = sampled(rt.alloc())?;
-    for (used, given, want) in FOLLOW {
-        let right = leads_to(rt.alloc(), &sample, used, given, want)?;
-        assert!(rt; right, "{used} on {given}");
-    }
+    assert_eq!(rt; first_astray(rt.alloc(), SAME_TABLE, &FOLLOW)?, "");
     Ok(())
 }
 
@@ -82,10 +77,6 @@ const REFUSED: [(&str, &str, &str); 11] = [
 
 #[test]
 fn other_bodies_are_not_found(rt: HostRuntime) -> Result<(), Fail> {
-    let sample = sampled(rt.alloc())?;
-    for (name, used, given) in REFUSED {
-        let answer = applied(rt.alloc(), &sample, used, given);
-        assert!(rt; matches!(answer, Err(StepFault::NoFollow)), "{name}");
-    }
+    assert_eq!(rt; first_followed(rt.alloc(), SAME_TABLE, &REFUSED)?, "");
     Ok(())
 }

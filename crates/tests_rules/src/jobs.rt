@@ -33,7 +33,12 @@ query all() {
 ";
 
 pub(crate) fn job(alloc: Global) -> Result<Job, TextFault> {
-    let bytes = JOB.as_bytes();
+    job_of(alloc, JOB)
+}
+
+/// The job that a text spells.
+pub(crate) fn job_of(alloc: Global, text: &str) -> Result<Job, TextFault> {
+    let bytes = text.as_bytes();
     if bytes.len() < 1 << 31 {
         read_job(alloc, bytes)
     } else {

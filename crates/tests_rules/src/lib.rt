@@ -8,6 +8,8 @@ mod classes;
 #[cfg(test)]
 mod copies;
 #[cfg(test)]
+mod ends;
+#[cfg(test)]
 mod expressions;
 #[cfg(test)]
 mod firsts;
@@ -20,14 +22,20 @@ mod jobs;
 #[cfg(test)]
 mod literals;
 #[cfg(test)]
+mod plain;
+#[cfg(test)]
 mod printed;
 #[cfg(test)]
 mod replaced;
 #[cfg(test)]
 mod rows;
 #[cfg(test)]
+mod statements;
+#[cfg(test)]
 mod steps;
 #[cfg(test)]
 mod tidied;
 #[cfg(test)]
 mod verdicts;
+#[cfg(test)]
+mod worked;

@@ -1,6 +1,5 @@
 // Steps by the rules on literals, worked out by hand.
-use crate::steps::{applied, leads_to, sampled};
-use mig_rules::StepFault;
+use crate::steps::{SAME_TABLE, first_astray, first_followed};
 use std::test::Fail;
 
 /// Steps, the expressions that they are made on, and those that they lead to.
@@ -33,11 +32,7 @@ const FOLLOW: [(&str, &str, &str); 8] = [
 
 #[test]
 fn literals_go_as_by_hand(rt: HostRuntime) -> Result<(), Fail> {
-    let sample = sampled(rt.alloc())?;
-    for (used, given, want) in FOLLOW {
-        let right = leads_to(rt.alloc(), &sample, used, given, want)?;
-        assert!(rt; right, "{used} on {given}");
-    }
+    assert_eq!(rt; first_astray(rt.alloc(), SAME_TABLE, &FOLLOW)?, "");
     Ok(())
 }
 
@@ -81,10 +76,6 @@ const REFUSED: [(&str, &str, &str); 14] = [
 
 #[test]
 fn other_literals_stay(rt: HostRuntime) -> Result<(), Fail> {
-    let sample = sampled(rt.alloc())?;
-    for (name, used, given) in REFUSED {
-        let answer = applied(rt.alloc(), &sample, used, given);
-        assert!(rt; matches!(answer, Err(StepFault::NoFollow)), "{name}");
-    }
+    assert_eq!(rt; first_followed(rt.alloc(), SAME_TABLE, &REFUSED)?, "");
     Ok(())
 }

@@ -1,6 +1,5 @@
 // Steps by the rules on rows, worked out by hand.
-use crate::steps::{applied, leads_to, sampled_with};
-use mig_rules::StepFault;
+use crate::steps::{first_astray, first_followed};
 use std::test::Fail;
 
 /// What is known of the rows of tables 0 and 1 before the call.
@@ -67,11 +66,7 @@ const FOLLOW: [(&str, &str, &str); 15] = [
 
 #[test]
 fn rows_go_as_by_hand(rt: HostRuntime) -> Result<(), Fail> {
-    let sample = sampled_with(rt.alloc(), FACTS)?;
-    for (used, given, want) in FOLLOW {
-        let right = leads_to(rt.alloc(), &sample, used, given, want)?;
-        assert!(rt; right, "{used} on {given}");
-    }
+    assert_eq!(rt; first_astray(rt.alloc(), FACTS, &FOLLOW)?, "");
     Ok(())
 }
 
@@ -165,10 +160,6 @@ const REFUSED: [(&str, &str, &str); 20] = [
 
 #[test]
 fn other_rows_stay(rt: HostRuntime) -> Result<(), Fail> {
-    let sample = sampled_with(rt.alloc(), FACTS)?;
-    for (name, used, given) in REFUSED {
-        let answer = applied(rt.alloc(), &sample, used, given);
-        assert!(rt; matches!(answer, Err(StepFault::NoFollow)), "{name}");
-    }
+    assert_eq!(rt; first_followed(rt.alloc(), FACTS, &REFUSED)?, "");
     Ok(())
 }
