@@ -4,19 +4,31 @@
 #![tactic(auto)]
 
 mod classes;
+mod completing;
+mod growing;
 mod making;
+mod numbering;
+mod obliging;
 mod playing;
+mod pooling;
 mod reading;
+mod refuting;
+mod sketched;
+mod stepping;
 mod tidying;
 mod trees;
 mod typing;
 
 use classes::Ties;
+use obliging::Shown;
 use playing::Tables;
+use refuting::Asked;
+use sketched::Search;
 use std::alloc::Global;
 use std::io::Write;
 use std::rt::Runtime;
 use std::{env, io};
+use stepping::Steps;
 use trees::Shape;
 
 const USAGE: &str = "measure reading SIZE [TIMES]
@@ -24,6 +36,14 @@ measure typing UPDATES TIMES
 measure tidying TERMS COMPARISONS TIMES
 measure chain-ties|pair-ties EQUALITIES TIMES
 measure one-table-calls|joined-calls CALLS
+measure first TERMS COMPARISONS TIMES
+measure steps TERMS
+measure obligations TABLES
+measure growing COMPARISONS COMPARISONS
+measure candidates TIMES
+measure sketching FUNCTIONS TIMES
+measure ranking TABLES CORRESPONDENCES
+measure failing LISTS
 measure star|chain|ring|dense|pair|four TIMES";
 
 /// What is to be measured.
@@ -40,6 +60,14 @@ enum Task {
     Classes(Ties, u32, u32),
     /// The playing of so many calls.
     Playing(Tables, u32),
+    /// The finding of first steps.
+    Stepping(Steps),
+    /// All that is to be shown of a program.
+    Obliging(Shown),
+    /// What is asked of a job of six functions and a program over its new schema.
+    Refuting(Asked),
+    /// What is asked of a large job.
+    Searching(Search),
     /// The listing of link trees, so many times.
     Trees(Shape, u32),
 }
@@ -70,6 +98,18 @@ fn task_of(name: &str, numbers: &[u32]) -> Option<Task> {
         ("pair-ties", [count, times]) => Some(Task::Classes(Ties::Pairs, *count, *times)),
         ("one-table-calls", [count]) => Some(Task::Playing(Tables::One, *count)),
         ("joined-calls", [count]) => Some(Task::Playing(Tables::Joined, *count)),
+        ("first", [terms, comparisons, times]) => {
+            Some(Task::Stepping(Steps::None(*terms, *comparisons, *times)))
+        }
+        ("steps", [terms]) => Some(Task::Stepping(Steps::Chain(*terms))),
+        ("obligations", [tables]) => Some(Task::Obliging(Shown::Pool(*tables))),
+        ("growing", [c, e]) => Some(Task::Obliging(Shown::Sets(*c, *e))),
+        ("candidates", [times]) => Some(Task::Refuting(Asked::Candidates(*times))),
+        ("failing", [tests]) => Some(Task::Refuting(Asked::Failing(*tests))),
+        ("sketching", [functions, times]) => {
+            Some(Task::Searching(Search::Sketch(*functions, *times)))
+        }
+        ("ranking", [tables, wanted]) => Some(Task::Searching(Search::Ranking(*tables, *wanted))),
         (_, [times]) => Some(Task::Trees(shape_of(name)?, *times)),
         _ => None,
     }
@@ -103,6 +143,10 @@ fn main(rt: HostRuntime) -> io::Result<()> {
         }
         Some(Task::Classes(ties, count, times)) => classes::time(&rt, ties, count, times),
         Some(Task::Playing(tables, count)) => playing::time(&rt, tables, count),
+        Some(Task::Stepping(steps)) => stepping::time(&rt, steps),
+        Some(Task::Obliging(shown)) => obliging::time(&rt, shown),
+        Some(Task::Refuting(asked)) => refuting::time(&rt, asked),
+        Some(Task::Searching(search)) => sketched::time(&rt, search),
         Some(Task::Trees(shape, times)) => trees::time(&rt, shape, times),
         None => println!(rt; "{USAGE}"),
     }
