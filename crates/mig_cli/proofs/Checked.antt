@@ -1,5 +1,5 @@
 -- An answer that is accepted is valid for its job.
-use Rattle.std.proofs.Common.{◌≡◌, ℕ, List, Some, inl, inr, ap, refl, subst}
+use Rattle.std.proofs.Common.{◌≡◌, ◌≢◌, ℕ, List, Some, inl, inr, ap, refl, subst}
 use Rattle.mig_schema.specs.declared.jobs.Job.{Job}
 use Rattle.mig_schema.specs.declared.programs.Program.{Program}
 use Rattle.mig_syntax.specs.Job.{IsTypedJobText}
@@ -12,9 +12,6 @@ use Rattle.mig_certificate.specs.declared.proofs.Certificate.{Certificate}
 use Rattle.mig_certificate.specs.Valid.{IsValid}
 use Rattle.mig_certificate.proofs.Shown.{valid-equivalent}
 use Rattle.mig_reading.specs.IsAnswer.{IsAnswer, program_lines}
-use Rattle.mig_checker.specs.declared.verdicts.Verdict.{Verdict}
-use Rattle.mig_checker.specs.declared.verdicts.Verdict.TheVariants.{Accepted, Rejected}
-use Rattle.mig_checker.specs.Verdict.{IsVerdict}
 use Rattle.mig_messages.specs.declared.status.Status.TheVariants as status
 use Rattle.mig_messages.specs.VerdictLines.{accepted}
 use Rattle.mig_cli.specs.declared.planning.Plan.{Plan}
@@ -61,19 +58,24 @@ module _ (bytes text : List ℕ) (job : Job) (program : Program) (certificate : 
     equivalent = valid-equivalent job program certificate v answer-typed law;
   }
 
--- a verdict that is told and done is that the certificate is valid
-verdict-done : (job : Job) (program : Program) (certificate : Certificate) (v : Verdict) (plan : Plan) → IsVerdict job program certificate v → plan ≡ checking.verdict_plan v → plan.status ≡ status.Done → IsValid job program certificate × (plan.text ≡ accepted)
-verdict-done job program certificate Accepted plan h is done = (h, ap (λ (p : Plan). p.text) is)
-verdict-done job program certificate (Rejected pair obligation step why) plan h is done = absurd (let odd : status.Rejected ≡ status.Done = status-as plan _ is done in cc)
+-- what turns an answer down is not done
+pub turned-not_done : (told : Holdings) (job : Job) (file : List ℕ) (plan : Plan) → checking.IsTurnedDown told job file plan → plan.status ≢ status.Done
+turned-not_done told job file plan (checking.refused (checking.long longer is)) done = let odd : status.Limit ≡ status.Done = status-as plan _ is done in cc
+turned-not_done told job file plan (checking.refused (checking.faulty text e gave none other is)) done = never-done e (status-as plan _ is done)
+turned-not_done told job file plan (checking.rejected program certificate gave h) done = let odd : status.Rejected ≡ status.Done = status-as plan _ h.is done in cc
+
+-- the text of a file that gave a valid answer over the job of these bytes is a valid answer
+pub given-valid : (told : Holdings) (bytes : List ℕ) (job : Job) (file held : List ℕ) (program : Program) → IsTypedJobText bytes job → told file ≡ Some held → (gave : checking.GaveProgram told job file program)
+    → IsAnswer job held program gave.certificate
+given-valid told bytes job file held program t holds gave =
+    subst (λ (x : List ℕ). IsAnswer job x program gave.certificate) (gave-held told file answer_cap gave.gave.bytes held holds gave.gave.gave) gave.gave.is
 
 -- what an answer's file leads to over the job of these bytes, where it is done
 answered-done : (told : Holdings) (bytes : List ℕ) (job : Job) (file held : List ℕ) (plan : Plan) → IsTypedJobText bytes job → told file ≡ Some held → plan.status ≡ status.Done → checking.IsAnswered told job file plan
     → (plan.text ≡ accepted) × IsValidAnswer bytes held
-answered-done told bytes job file held plan t holds done (checking.refused (checking.long longer is)) = absurd (let odd : status.Limit ≡ status.Done = status-as plan _ is done in cc)
-answered-done told bytes job file held plan t holds done (checking.refused (checking.faulty text e gave none other is)) = absurd (never-done e (status-as plan _ is done))
-answered-done told bytes job file held plan t holds done (checking.judged program certificate gave h) =
-    let v = verdict-done job program certificate h.verdict plan h.right h.is done in
-    (v.1, subst (λ (x : List ℕ). IsValidAnswer bytes x) (gave-held told file answer_cap gave.bytes held holds gave.gave) (valid-answer bytes gave.bytes job program certificate t gave.is v.0))
+answered-done told bytes job file held plan t holds done (checking.turned_down h) = absurd (turned-not_done told job file plan h done)
+answered-done told bytes job file held plan t holds done (checking.valid program gave is) =
+    (ap (λ (p : Plan). p.text) is, valid-answer bytes held job program gave.certificate t (given-valid told bytes job file held program t holds gave) gave.valid)
 
 -- what is checked and done, of files that tell what they hold
 checked-done : (told : Holdings) (file answer bytes text : List ℕ) (names : List (List ℕ)) (plan : Plan) → told file ≡ Some bytes → told answer ≡ Some text → plan.status ≡ status.Done → checking.IsChecked told file answer names plan
@@ -96,7 +98,7 @@ outcome-checks words before after plan tells asks done (spec.checked file answer
     let u = tells answer (Check file answer, asked, inr (inl refl)) in
     let d = checked-done before.files.told file answer t.0 u.0 names plan t.1 u.1 done h in
     (file, answer, t.0, u.0, asked, t.1, u.1, d.0, d.1)
-outcome-checks words before after plan tells asks done (spec.run file calls asked h) = absurd (check-no_run words asks.0 asks.1 file calls asks.2 asked)
+outcome-checks words before after plan tells asks done (spec.run file calls named asked h) = absurd (check-no_run words asks.0 asks.1 file calls named asks.2 asked)
 
 -- what is right and done is the line that accepts, put whole
 pub right-checks : (words : List (List ℕ)) (before after : World) (result : ℕ) → spec.Right words before after result → Checks words before after result

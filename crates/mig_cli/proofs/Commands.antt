@@ -1,5 +1,5 @@
 -- What words ask for, by the one command that they are.
-use Rattle.std.proofs.Common.{◌≡◌, ◌≢◌, ℕ, List, [], ◌∷◌, Result, Ok, Err, None, codes, ◌⊎◌, inl, inr, sym, ◌∙◌}
+use Rattle.std.proofs.Common.{◌≡◌, ◌≢◌, ℕ, List, [], ◌∷◌, Option, Result, Ok, Err, codes, ◌⊎◌, inl, inr, sym, ◌∙◌}
 use Rattle.mig_words.specs.declared.command.Command.{Command}
 use Rattle.mig_words.specs.declared.command.Command.TheVariants.{Migrate, Check, Run, Trial}
 use Rattle.mig_words.specs.declared.command.Options.{Options}
@@ -23,10 +23,10 @@ first-word words c (commands.runs_new job calls answer e a b d is) = (job ∷ ca
 first-word words c (commands.tries number e a is) = (number ∷ [], rw is e)
 
 -- words that ask to migrate ask to run nothing
-pub migrate-no_run : (words : List (List ℕ)) (file other calls : List ℕ) (options : Options) → asked.AsksToMigrate words file options → asked.AsksToRun words other calls → ⊥
-migrate-no_run words file other calls options m r =
+pub migrate-no_run : (words : List (List ℕ)) (file other calls : List ℕ) (answer : Option (List ℕ)) (options : Options) → asked.AsksToMigrate words file options → asked.AsksToRun words other calls answer → ⊥
+migrate-no_run words file other calls answer options m r =
     let a = first-word words (Migrate file options) m in
-    let b = first-word words (Run other calls None) r in
+    let b = first-word words (Run other calls answer) r in
     let odd : codes "migrate" ∷ a.0 ≡ codes "run" ∷ b.0 = sym a.1 ∙ b.1 in
     cc
 
@@ -39,10 +39,10 @@ migrate-no_check words file other answer options m k =
     cc
 
 -- words that ask to check ask to run nothing
-pub check-no_run : (words : List (List ℕ)) (file answer other calls : List ℕ) → asked.AsksToCheck words file answer → asked.AsksToRun words other calls → ⊥
-check-no_run words file answer other calls k r =
+pub check-no_run : (words : List (List ℕ)) (file answer other calls : List ℕ) (named : Option (List ℕ)) → asked.AsksToCheck words file answer → asked.AsksToRun words other calls named → ⊥
+check-no_run words file answer other calls named k r =
     let a = first-word words (Check file answer) k in
-    let b = first-word words (Run other calls None) r in
+    let b = first-word words (Run other calls named) r in
     let odd : codes "check" ∷ a.0 ≡ codes "run" ∷ b.0 = sym a.1 ∙ b.1 in
     cc
 

@@ -8,5 +8,6 @@ pub mod Named
 pub mod NoKeys
 pub mod Planned
 pub mod Putting
+pub mod RunPlans
 pub mod Statuses
 pub mod Worded

@@ -104,7 +104,7 @@ outcome-migrates words before after plan tells asks done (spec.migrated file opt
     let t = tells file (Migrate file options, asked, inl refl) in
     (file, options, t.0, asked, t.1, migrated-done before.files.told file t.0 (migrating.search_options options) plan t.1 done h)
 outcome-migrates words before after plan tells asks done (spec.checked file answer names asked named same h) = absurd (migrate-no_check words asks.0 file answer asks.1 asks.2 asked)
-outcome-migrates words before after plan tells asks done (spec.run file calls asked h) = absurd (migrate-no_run words asks.0 file calls asks.1 asks.2 asked)
+outcome-migrates words before after plan tells asks done (spec.run file calls answer asked h) = absurd (migrate-no_run words asks.0 file calls answer asks.1 asks.2 asked)
 
 -- what is right and done is a migration that was put whole
 pub right-migrates : (words : List (List ℕ)) (before after : World) (result : ℕ) → spec.Right words before after result → Migrates words before after result

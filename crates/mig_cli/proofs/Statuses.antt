@@ -1,5 +1,5 @@
 -- Which statuses the outcome has.
-use Rattle.std.proofs.Common.{◌≡◌, ◌≢◌, ℕ, List, refl, sym, ap, ◌∙◌, subst}
+use Rattle.std.proofs.Common.{◌≡◌, ◌≢◌, ℕ, List, Option, refl, sym, ap, ◌∙◌, subst}
 use Rattle.mig_schema.specs.declared.jobs.Job.{Job}
 use Rattle.mig_schema.specs.declared.programs.Program.{Program}
 use Rattle.mig_certificate.specs.declared.proofs.Certificate.{Certificate}
@@ -11,8 +11,6 @@ use Rattle.mig_syntax.specs.declared.fault.TextFault.{TextFault}
 use Rattle.mig_syntax.specs.declared.fault.TextFault.TheVariants as text
 use Rattle.mig_store.specs.declared.faults.CallsFault.{CallsFault}
 use Rattle.mig_store.specs.declared.faults.CallsFault.TheVariants as calls
-use Rattle.mig_checker.specs.declared.verdicts.Verdict.{Verdict}
-use Rattle.mig_checker.specs.declared.verdicts.Verdict.TheVariants.{Accepted, Rejected}
 use Rattle.mig_messages.specs.declared.status.Status.{Status}
 use Rattle.mig_messages.specs.declared.status.Status.TheVariants as status
 use Rattle.mig_messages.specs.Statuses.{calls_status, fault_status}
@@ -83,24 +81,28 @@ fault-known (text.At row column) other = tt
 fault-known (text.Limit which row) other = tt
 fault-known (text.Typing f) other = tt
 
-verdict-known : (v : Verdict) → IsKnown (checking.verdict_plan v).status
-verdict-known Accepted = tt
-verdict-known (Rejected pair obligation step why) = tt
+turned-known : (told : Holdings) (job : Job) (file : List ℕ) (plan : Plan) → checking.IsTurnedDown told job file plan → IsKnown plan.status
+turned-known told job file plan (checking.refused (checking.long longer is)) = known-as plan _ is tt
+turned-known told job file plan (checking.refused (checking.faulty bytes e gave none other is)) = known-as plan _ is (fault-known e other)
+turned-known told job file plan (checking.rejected program certificate gave h) = known-as plan _ h.is tt
 
 answered-known : (told : Holdings) (job : Job) (file : List ℕ) (plan : Plan) → checking.IsAnswered told job file plan → IsKnown plan.status
-answered-known told job file plan (checking.refused (checking.long longer is)) = known-as plan _ is tt
-answered-known told job file plan (checking.refused (checking.faulty bytes e gave none other is)) = known-as plan _ is (fault-known e other)
-answered-known told job file plan (checking.judged program certificate gave h) = known-as plan _ h.is (verdict-known h.verdict)
+answered-known told job file plan (checking.turned_down h) = turned-known told job file plan h
+answered-known told job file plan (checking.valid program gave is) = known-as plan _ is tt
 
 checked-known : (told : Holdings) (file answer : List ℕ) (names : List (List ℕ)) (plan : Plan) → checking.IsChecked told file answer names plan → IsKnown plan.status
 checked-known told file answer names plan (checking.no_job h one) = job-known told file plan h
 checked-known told file answer names plan (checking.read job gave h two) = answered-known told job answer plan h
 
-run-known : (file calls : List ℕ) (before after : Inputs) (plan : Plan) → running.IsRun file calls before after plan → IsKnown plan.status
-run-known file calls before after plan (running.no_job h asks same) = job-known before.files.told file plan h
-run-known file calls before after plan (running.long job gave longer asks same is) = known-as plan _ is tt
-run-known file calls before after plan (running.no_calls job gave bytes got cause h asks is) = known-as plan _ is (calls-known cause h.never)
-run-known file calls before after plan (running.played job gave bytes got text h asks is) = known-as plan _ is tt
+refused_calls-known : (told : Holdings) (job : Job) (file : List ℕ) (plan : Plan) → running.IsRefusedCalls told job file plan → IsKnown plan.status
+refused_calls-known told job file plan (running.long longer is) = known-as plan _ is tt
+refused_calls-known told job file plan (running.faulty bytes cause gave said other is) = known-as plan _ is (calls-known cause other)
+
+run-known : (file calls : List ℕ) (answer : Option (List ℕ)) (before after : Inputs) (plan : Plan) → running.IsRun file calls answer before after plan → IsKnown plan.status
+run-known file calls answer before after plan (running.no_job h asks same) = job-known before.files.told file plan h
+run-known file calls answer before after plan (running.no_calls job gave h asks same) = refused_calls-known before.files.told job calls plan h
+run-known file calls answer before after plan (running.no_answer job gave list said named one h asks same) = turned-known before.files.told job named plan h
+run-known file calls answer before after plan (running.played job gave list said schema p plays text h asks is) = known-as plan _ is tt
 
 -- no outcome has the status of a fault
 pub outcome-known : (words : List (List ℕ)) (before after : Inputs) (plan : Plan) → spec.IsOutcome words before after plan → IsKnown plan.status
@@ -108,7 +110,7 @@ outcome-known words before after plan (spec.refused e h asks same is) = known-as
 outcome-known words before after plan (spec.unbuilt command h none asks same is) = known-as plan _ is tt
 outcome-known words before after plan (spec.migrated file options asked asks same h) = migrated-known before.files.told file (migrating.search_options options) plan h
 outcome-known words before after plan (spec.checked file answer names asked named same h) = checked-known before.files.told file answer names plan h
-outcome-known words before after plan (spec.run file calls asked h) = run-known file calls before after plan h
+outcome-known words before after plan (spec.run file calls answer asked h) = run-known file calls answer before after plan h
 
 -- a known status is none of these
 pub known-not : (s fault : Status) → (IsKnown fault → ⊥) → IsKnown s → s ≢ fault
@@ -123,7 +125,7 @@ due-put words before after plan (spec.unread earlier file asks sound named rose 
   (λ h. let e : status.File ≡ status.Sink = sym (ap (λ (p : Plan). p.status) is) ∙ h in cc),
   (λ h. let e : status.File ≡ status.Memory = sym (ap (λ (p : Plan). p.status) is) ∙ h in cc),
 )
-due-put words before after plan (spec.failed file calls asked asks cause is) = (
+due-put words before after plan (spec.failed file calls answer asked asks cause is) = (
   (λ h. let e : status.Store ≡ status.Sink = sym (ap (λ (p : Plan). p.status) is) ∙ h in cc),
   (λ h. let e : status.Store ≡ status.Memory = sym (ap (λ (p : Plan). p.status) is) ∙ h in cc),
 )

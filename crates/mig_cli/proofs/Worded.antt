@@ -1,5 +1,6 @@
 -- From the plan of a command to the plan for the words that are this command.
-use Rattle.std.proofs.Common.{◌≡◌, ◌≢◌, ℕ, List, [], ◌∷◌, ◌++◌, Result, Ok, Err, IfOk, None, ◌⊎◌, inl, inr, sym, ◌∙◌, refl}
+use Rattle.std.proofs.Common.{◌≡◌, ◌≢◌, ℕ, List, [], ◌∷◌, ◌++◌, Result, Ok, Err, IfOk, Option, ◌⊎◌, inl, inr, sym, ◌∙◌, refl}
+use Rattle.std.specs.Prelude.{option_to_list}
 use Rattle.std.proofs.lemmas.List.{append-nil}
 use Rattle.std.specs.declared.alloc.AllocError.{AllocError}
 use Rattle.mig_words.specs.declared.command.Command.{Command}
@@ -52,21 +53,22 @@ module _ (words : List (List ℕ)) (before after : Inputs) where
 
   -- ---- running
 
-  pub run : (file calls : List ℕ) → asked.AsksToRun words file calls → (r : Result Plan AllocError) → IfOk r (planned.IsRunPlan file calls before after) → IfOk r (spec.IsDue words before after)
-  run file calls asks (Ok p) (planned.unread earlier last names sound one u same) = spec.unread earlier last names sound (Run file calls None, asks, one) u.cause same u.is
-  run file calls asks (Ok p) (planned.failed names cause is) = spec.failed file calls asks names cause is
-  run file calls asks (Ok p) (planned.run h) = spec.outcome (spec.run file calls asks h)
-  run file calls asks (Err e) h = tt
+  pub run : (file calls : List ℕ) (answer : Option (List ℕ)) → asked.AsksToRun words file calls answer → (r : Result Plan AllocError) → IfOk r (planned.IsRunPlan file calls answer before after)
+      → IfOk r (spec.IsDue words before after)
+  run file calls answer asks (Ok p) (planned.unread earlier last names sound one u same) = spec.unread earlier last names sound (Run file calls answer, asks, one) u.cause same u.is
+  run file calls answer asks (Ok p) (planned.failed names cause is) = spec.failed file calls answer asks names cause is
+  run file calls answer asks (Ok p) (planned.run h) = spec.outcome (spec.run file calls answer asks h)
+  run file calls answer asks (Err e) h = tt
 
   -- what a run left is left
-  pub left : (file calls : List ℕ) → asked.AsksToRun words file calls → Spares before after ⊎ running.RanSome file calls before after → running.IsLeft words before after
-  left file calls asks (inl same) = inl same
-  left file calls asks (inr h) = inr (file, calls, asks, h)
+  pub left : (file calls : List ℕ) (answer : Option (List ℕ)) → asked.AsksToRun words file calls answer → Spares before after ⊎ running.RanSome file calls answer before after → running.IsLeft words before after
+  left file calls answer asks (inl same) = inl same
+  left file calls answer asks (inr h) = inr (file, calls, answer, asks, h)
 
 -- the names of a run are its first files
-pub run-names : (words before after : List (List ℕ)) (file calls : List ℕ) → asked.AsksToRun words file calls → (after ≡ before ++ file ∷ []) ⊎ (after ≡ before ++ file ∷ calls ∷ []) → asked.AskedFirst words before after
-run-names words before after file calls asks (inl e) = inr (Run file calls None, 1, asks, e)
-run-names words before after file calls asks (inr e) = inr (Run file calls None, 2, asks, e)
+pub run-names : (words before after : List (List ℕ)) (file calls : List ℕ) (answer : Option (List ℕ)) → asked.AsksToRun words file calls answer
+    → planned.FirstAsked (file ∷ calls ∷ option_to_list answer) before after → asked.AskedFirst words before after
+run-names words before after file calls answer asks h = inr (Run file calls answer, h.0, asks, h.1)
 
 -- so are those of a check
 pub check-names : (words before after : List (List ℕ)) (file answer : List ℕ) → asked.AsksToCheck words file answer → (after ≡ before ++ file ∷ []) ⊎ (after ≡ before ++ file ∷ answer ∷ []) → asked.AskedFirst words before after

@@ -1,5 +1,5 @@
 -- What words ask for, and the files that they name for it.
-use Rattle.std.specs.Prelude.{◌≡◌, ℕ, List, [], ◌∷◌, ◌++◌, take, Some, None, ◌⊎◌}
+use Rattle.std.specs.Prelude.{◌≡◌, ℕ, List, [], ◌∷◌, ◌++◌, take, Option, option_to_list, ◌⊎◌}
 use Rattle.mig_meaning.specs.Lists.{In}
 use Rattle.mig_words.specs.declared.command.Options.{Options}
 use Rattle.mig_words.specs.declared.command.Command.{Command}
@@ -10,8 +10,7 @@ use Rattle.mig_words.specs.Commands.{IsCommand}
 abbrev pub files_of : Command → List (List ℕ)
 files_of (Migrate job options) = job ∷ []
 files_of (Check job answer) = job ∷ answer ∷ []
-files_of (Run job calls None) = job ∷ calls ∷ []
-files_of (Run job calls (Some answer)) = []
+files_of (Run job calls answer) = job ∷ calls ∷ option_to_list answer
 files_of (Trial number) = []
 
 -- the words ask to migrate the job in this file, as far as these options go
@@ -22,9 +21,9 @@ AsksToMigrate words file options = IsCommand words (Migrate file options)
 abbrev pub AsksToCheck : List (List ℕ) → (file answer : List ℕ) → Type 0
 AsksToCheck words file answer = IsCommand words (Check file answer)
 
--- the words ask to run the old program of the job in the one file on the calls in the other
-abbrev pub AsksToRun : List (List ℕ) → (file calls : List ℕ) → Type 0
-AsksToRun words file calls = IsCommand words (Run file calls None)
+-- the words ask to play the calls in the one file for the job in the other: with its old program, or with that of the answer in this file
+abbrev pub AsksToRun : List (List ℕ) → (file calls : List ℕ) → (answer : Option (List ℕ)) → Type 0
+AsksToRun words file calls answer = IsCommand words (Run file calls answer)
 
 -- The words ask for work that is not there yet, or are refused.
 abbrev pub AsksForNothing : List (List ℕ) → Type 0
@@ -32,7 +31,7 @@ AsksForNothing words = (command : Command) → IsCommand words command → files
 
 -- the words do not ask to run a program
 abbrev pub AsksForNoRun : List (List ℕ) → Type 0
-AsksForNoRun words = (file calls : List ℕ) → AsksToRun words file calls → ⊥
+AsksForNoRun words = (file calls : List ℕ) (answer : Option (List ℕ)) → AsksToRun words file calls answer → ⊥
 
 -- this is one of the files that the words name for their work
 abbrev pub NamesFile : List (List ℕ) → List ℕ → Type 0

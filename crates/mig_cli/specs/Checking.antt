@@ -6,8 +6,9 @@ use Rattle.mig_syntax.specs.declared.fault.TextFault.{TextFault}
 use Rattle.mig_syntax.specs.declared.fault.TextFault.TheVariants.{Memory}
 use Rattle.mig_certificate.specs.declared.proofs.Certificate.{Certificate}
 use Rattle.mig_reading.specs.IsAnswer.{IsAnswer}
-use Rattle.mig_checker.specs.declared.verdicts.Verdict.{Verdict}
-use Rattle.mig_checker.specs.declared.verdicts.Verdict.TheVariants.{Accepted, Rejected}
+use Rattle.mig_certificate.specs.Valid.{IsValid}
+use Rattle.mig_checker.specs.declared.verdicts.Why.{Why}
+use Rattle.mig_checker.specs.declared.verdicts.Verdict.TheVariants.{Rejected}
 use Rattle.mig_checker.specs.Verdict.{IsVerdict}
 use Rattle.mig_messages.specs.declared.status.Status.TheVariants as status
 use Rattle.mig_messages.specs.Statuses.{fault_status}
@@ -39,23 +40,32 @@ pub record GaveAnswer (told : Holdings) (job : Job) (file : List ℕ) (program :
 
 -- ---- its verdict
 
--- what a verdict leads to
-abbrev pub verdict_plan : Verdict → Plan
-verdict_plan Accepted = answered accepted []
-verdict_plan (Rejected pair obligation step why) = refusal status.Rejected (rejected_line pair obligation step why)
+-- the certificate is not valid, and the line tells its first broken place
+pub record IsRejected (job : Job) (program : Program) (certificate : Certificate) (plan : Plan) : Type 0 where
+  pub pair : ℕ
+  pub obligation : ℕ
+  pub step : ℕ
+  pub why : Why
+  pub broken : IsVerdict job program certificate (Rejected pair obligation step why)
+  pub is : plan ≡ refusal status.Rejected (rejected_line pair obligation step why)
 
--- what a program and its certificate lead to: their verdict, as it is told
-pub record IsJudged (job : Job) (program : Program) (certificate : Certificate) (plan : Plan) : Type 0 where
-  pub verdict : Verdict
-  pub right : IsVerdict job program certificate verdict
-  pub is : plan ≡ verdict_plan verdict
+-- How an answer is turned down over a job: its file is refused, or its certificate is not valid.
+pub data IsTurnedDown (told : Holdings) (job : Job) (file : List ℕ) (plan : Plan) : Type 0 where
+  refused : IsRefusedAnswer told job file plan → IsTurnedDown told job file plan
+  rejected : (program : Program) (certificate : Certificate) → GaveAnswer told job file program certificate → IsRejected job program certificate plan → IsTurnedDown told job file plan
+
+-- the file gave an answer over the job whose certificate is valid, and this is its program
+pub record GaveProgram (told : Holdings) (job : Job) (file : List ℕ) (program : Program) : Type 0 where
+  pub certificate : Certificate
+  pub gave : GaveAnswer told job file program certificate
+  pub valid : IsValid job program certificate
+
+-- what an answer's file leads to over a job where it is checked
+pub data IsAnswered (told : Holdings) (job : Job) (file : List ℕ) (plan : Plan) : Type 0 where
+  turned_down : IsTurnedDown told job file plan → IsAnswered told job file plan
+  valid : (program : Program) → GaveProgram told job file program → plan ≡ answered accepted [] → IsAnswered told job file plan
 
 -- ---- files
-
--- what an answer's file leads to over a job: a refusal, or the verdict
-pub data IsAnswered (told : Holdings) (job : Job) (file : List ℕ) (plan : Plan) : Type 0 where
-  refused : IsRefusedAnswer told job file plan → IsAnswered told job file plan
-  judged : (program : Program) (certificate : Certificate) → GaveAnswer told job file program certificate → IsJudged job program certificate plan → IsAnswered told job file plan
 
 -- What a job's file and an answer's file lead to, and the names that are asked for. A job that is refused leaves the answer unread.
 pub data IsChecked (told : Holdings) (file answer : List ℕ) (names : List (List ℕ)) (plan : Plan) : Type 0 where

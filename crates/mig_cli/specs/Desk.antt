@@ -1,6 +1,7 @@
 -- What the desk answers for its words in a world, and what it leaves there.
-use Rattle.std.specs.Prelude.{◌≡◌, ◌≢◌, ℕ, false, List, [], ◌∷◌, ◌++◌, Some, ◌⊎◌}
+use Rattle.std.specs.Prelude.{◌≡◌, ◌≢◌, ℕ, false, List, [], ◌∷◌, ◌++◌, Option, Some, ◌⊎◌}
 use Rattle.mig_words.specs.declared.command.Command.{Command}
+use Rattle.mig_words.specs.declared.command.Command.TheVariants.{Run}
 use Rattle.mig_words.specs.declared.command.Options.{Options}
 use Rattle.mig_words.specs.declared.command.WordFault.{WordFault}
 use Rattle.mig_words.specs.Commands.{IsCommand}
@@ -15,10 +16,9 @@ use Rattle.mig_cli.specs.declared.planning.Plan.{Plan}
 use Rattle.mig_cli.specs.Plans.{refusal}
 use Rattle.mig_cli.specs.World.{Asks, Holdings, Inputs, Outputs, Spares, World}
 use Rattle.mig_cli.specs.Asked.{files_of, AsksToMigrate, AsksToCheck, AsksToRun, NamesFile}
-use Rattle.mig_cli.specs.Jobs.{GaveJobs}
 use Rattle.mig_cli.specs.Migrating.{IsMigrated, search_options}
 use Rattle.mig_cli.specs.Checking.{IsChecked}
-use Rattle.mig_cli.specs.Running.{IsRun, RunFailed}
+use Rattle.mig_cli.specs.Running.{GaveEarlier, IsRun, RunFailed}
 
 -- ---- outcomes
 
@@ -29,14 +29,14 @@ pub data IsOutcome (words : List (List ℕ)) (before after : Inputs) (plan : Pla
   unbuilt : (command : Command) → IsCommand words command → files_of command ≡ [] → Asks before after [] → Spares before after → plan ≡ refusal status.Words unbuilt_words → IsOutcome words before after plan
   migrated : (file : List ℕ) (options : Options) → AsksToMigrate words file options → Asks before after (file ∷ []) → Spares before after → IsMigrated before.files.told file (search_options options) plan → IsOutcome words before after plan
   checked : (file answer : List ℕ) (names : List (List ℕ)) → AsksToCheck words file answer → Asks before after names → Spares before after → IsChecked before.files.told file answer names plan → IsOutcome words before after plan
-  run : (file calls : List ℕ) → AsksToRun words file calls → IsRun file calls before after plan → IsOutcome words before after plan
+  run : (file calls : List ℕ) (answer : Option (List ℕ)) → AsksToRun words file calls answer → IsRun file calls answer before after plan → IsOutcome words before after plan
 
--- what is to be put: the outcome, or the line on a file that could not be read behind those that gave a job, or the one on a store that failed
+-- what is to be put: the outcome, or the line on a file that could not be read behind those that gave a job or calls, or the one on a store that failed
 pub data IsDue (words : List (List ℕ)) (before after : Inputs) (plan : Plan) : Type 0 where
   outcome : IsOutcome words before after plan → IsDue words before after plan
-  unread : (earlier : List (List ℕ)) (file : List ℕ) → Asks before after (earlier ++ file ∷ []) → GaveJobs before.files.told earlier → NamesFile words file
+  unread : (earlier : List (List ℕ)) (file : List ℕ) → Asks before after (earlier ++ file ∷ []) → GaveEarlier before.files.told earlier → NamesFile words file
       → Rose before.files.faults after.files.faults → Spares before after → plan ≡ refusal status.File (cannot_read file) → IsDue words before after plan
-  failed : (file calls : List ℕ) → AsksToRun words file calls → Asks before after (file ∷ calls ∷ []) → RunFailed file calls before after → plan ≡ refusal status.Store store_failed → IsDue words before after plan
+  failed : (file calls : List ℕ) (answer : Option (List ℕ)) → AsksToRun words file calls answer → Asks before after (files_of (Run file calls answer)) → RunFailed file calls answer before after → plan ≡ refusal status.Store store_failed → IsDue words before after plan
 
 -- The files tell what the named ones hold.
 abbrev pub Tells : Holdings → List (List ℕ) → Type 0
@@ -75,7 +75,7 @@ pub record NothingFails (words : List (List ℕ)) (before after : World) : Type 
   pub files : Rose before.inputs.files.faults after.inputs.files.faults → ⊥
   pub out : Rose before.outputs.out.faults after.outputs.out.faults → ⊥
   pub err : Rose before.outputs.err.faults after.outputs.err.faults → ⊥
-  pub store : (file calls : List ℕ) → AsksToRun words file calls → (Rose before.inputs.store.faults after.inputs.store.faults → ⊥) × (before.inputs.store.broken ≡ false)
+  pub store : (file calls : List ℕ) (answer : Option (List ℕ)) → AsksToRun words file calls answer → (Rose before.inputs.store.faults after.inputs.store.faults → ⊥) × (before.inputs.store.broken ≡ false)
 
 -- Completeness: where nothing fails, the outcome was put whole, or memory ran out and one line says so.
 abbrev pub Complete : List (List ℕ) → (before after : World) → ℕ → Type 0
@@ -88,12 +88,12 @@ EndsEarly result = (result ≢ number status.Done) × (result ≢ number status.
 
 -- ---- with the statuses of faults
 
--- A file's count rose. Each file before it gave a job, and the line on this file, which was asked for last, is all that was put.
+-- A file's count rose. Each file before it gave a job or calls, and the line on this file, which was asked for last, is all that was put.
 pub record FileFault (words : List (List ℕ)) (before after : World) : Type 0 where
   pub cause : Rose before.inputs.files.faults after.inputs.files.faults
   pub earlier : List (List ℕ)
   pub file : List ℕ
-  pub sound : GaveJobs before.inputs.files.told earlier
+  pub sound : GaveEarlier before.inputs.files.told earlier
   pub named : NamesFile words file
   pub asked : Asks before.inputs after.inputs (earlier ++ file ∷ [])
   pub put : Whole before.outputs after.outputs [] (cannot_read file)
@@ -110,10 +110,11 @@ pub record SinkFault (words : List (List ℕ)) (before after : World) : Type 0 w
   pub under_way : IsUnderWay words before.inputs after.inputs plan
   pub cut : Cut before.outputs after.outputs plan.text plan.report
 
--- The words ask to run and the files gave calls of a job; the store's count rose, or it was broken before. Its line is all that was put.
+-- The words ask to run, and the files gave calls of a job, and a valid answer where one is named; the store's count rose, or it was broken before. Its line is all that was put.
 pub record StoreFault (words : List (List ℕ)) (before after : World) : Type 0 where
   pub file : List ℕ
   pub calls : List ℕ
-  pub asks : AsksToRun words file calls
-  pub failed : RunFailed file calls before.inputs after.inputs
+  pub answer : Option (List ℕ)
+  pub asks : AsksToRun words file calls answer
+  pub failed : RunFailed file calls answer before.inputs after.inputs
   pub put : Whole before.outputs after.outputs [] store_failed

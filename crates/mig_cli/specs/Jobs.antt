@@ -3,7 +3,6 @@ use Rattle.std.specs.Prelude.{◌≡◌, ℕ, ◌<◌, ◌≤◌, List, length}
 use Rattle.std.specs.Option.{ForSome}
 use Rattle.mig_schema.specs.declared.faults.TypeFault.{TypeFault}
 use Rattle.mig_schema.specs.declared.jobs.Job.{Job}
-use Rattle.mig_meaning.specs.Lists.{Each}
 use Rattle.mig_schema.specs.declared.limits.Limit.{Limit}
 use Rattle.mig_schema.specs.declared.limits.Limit.TheVariants.{Pairs}
 use Rattle.mig_tokens.specs.Refused.{StandsWrong, StandsPast}
@@ -53,7 +52,3 @@ pub record GaveJob (told : Holdings) (file : List ℕ) (job : Job) : Type 0 wher
   pub bytes : List ℕ
   pub gave : Gave told file job_cap bytes
   pub spells : IsTypedJobText bytes job
-
--- each of these files gave one
-abbrev pub GaveJobs : Holdings → List (List ℕ) → Type 0
-GaveJobs told files = Each (λ (file : List ℕ). (job : Job) × GaveJob told file job) files

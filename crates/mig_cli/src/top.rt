@@ -65,10 +65,9 @@ fn plan<F: Files, S: Store>(
         Err(fault) => refused_plan(alloc, fault),
         Ok(command) => match command {
             Command::Migrate { job, options } => migrated_plan(alloc, &job, &options, files),
-            Command::Run { job, calls, answer } => match answer {
-                None => run_plan(alloc, &job, &calls, files, store),
-                Some(_) => unbuilt_plan(alloc),
-            },
+            Command::Run { job, calls, answer } => {
+                run_plan(alloc, &job, &calls, &answer, files, store)
+            }
             Command::Check { job, answer } => checked_plan(alloc, &job, &answer, files),
             Command::Trial { .. } => unbuilt_plan(alloc),
         },

@@ -21,10 +21,6 @@ use Rattle.mig_syntax.specs.declared.fault.TextFault.TheVariants as fault
 abbrev pub line : List ℕ → List ℕ
 line text = text ++ 10 ∷ []
 
--- the report of an answer
-abbrev pub found : List ℕ
-found = line (codes "found: 0 entries")
-
 -- the line on want of memory
 abbrev pub no_memory : List ℕ
 no_memory = line (codes "out of memory")
@@ -61,10 +57,6 @@ cannot_read file = file ++ line (codes ": cannot read")
 -- the line on a file that is longer than so many bytes
 abbrev pub too_long : List ℕ → ℕ → List ℕ
 too_long file cap = file ++ (codes ": longer than " ++ (decimal cap ++ line (codes " bytes")))
-
--- the line on a typed job that is not plain
-abbrev pub not_built : List ℕ → List ℕ
-not_built file = file ++ line (codes ":0:0: not built")
 
 -- a number behind a colon
 abbrev pub place : ℕ → List ℕ

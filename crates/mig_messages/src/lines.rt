@@ -12,13 +12,6 @@ use mig_syntax::TextFault;
 use mig_words::WordFault;
 use std::alloc::{AllocError, Global};
 
-/// The report of an answer.
-pub fn found() -> &'static str
-    ensures { result.now ≡ spec.found }
-{
-    "found: 0 entries\n"
-}
-
 /// The line on want of memory.
 pub fn no_memory() -> &'static str
     ensures { result.now ≡ spec.no_memory }
@@ -89,13 +82,6 @@ pub fn too_long(alloc: Global, file: &Word, cap: u32) -> Result<Txt, AllocError>
     put_number(&mut out, cap)?;
     put(&mut out, " bytes\n")?;
     Ok(out)
-}
-
-/// The line on a typed job that is not plain.
-pub fn not_built(alloc: Global, file: &Word) -> Result<Txt, AllocError>
-    ensures { IfOk result (λ t. t ≡ spec.not_built file.now) }
-{
-    line_of(alloc, file, ":0:0: not built\n")
 }
 
 /// Appends a colon and a number.

@@ -36,7 +36,7 @@ pub(crate) fn checked(alloc: Global, files: MemFiles) -> Result<Ended, AllocErro
 }
 
 /// The answer with another text in the place of one that stands there, and nothing where it stands nowhere.
-fn changed(alloc: Global, old: &str, new: &str) -> Result<Bytes, AllocError> {
+pub(crate) fn changed(alloc: Global, old: &str, new: &str) -> Result<Bytes, AllocError> {
     let mut text = Seq::new(alloc);
     if let Some((front, rest)) = ANSWER.split_once(old) {
         text.extend_from_slice(front.as_bytes())?;

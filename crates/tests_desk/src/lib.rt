@@ -12,6 +12,8 @@ mod files;
 #[cfg(test)]
 mod forged;
 #[cfg(test)]
+mod played;
+#[cfg(test)]
 mod refused;
 #[cfg(test)]
 mod runs;

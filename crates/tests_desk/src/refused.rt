@@ -17,7 +17,7 @@ const WORDS: [(&str, u8, &str); 16] = [
     ("|check|jo|job", 6, "jo: cannot read\n"),
     ("|run|job|jo", 6, "jo: cannot read\n"),
     ("|run|jo|job", 6, "jo: cannot read\n"),
-    ("|run|job|job|job", 1, "words: not built\n"),
+    ("|run|job|job|jo", 11, "job: record 1: unknown\n"),
     ("|trial|1", 1, "words: not built\n"),
     ("|migrate|jo", 6, "jo: cannot read\n"),
     ("|migrate|", 6, ": cannot read\n"),

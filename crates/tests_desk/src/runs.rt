@@ -6,12 +6,12 @@ use mig_storage::{FaultStore, VecStore};
 use std::alloc::{AllocError, Global};
 use std::test::Fail;
 
-const CALLS: &str = "add,7,Ann\nadd,7,Bob\nadd,7,Ann\nget,7\nget,8\n";
+pub(crate) const CALLS: &str = "add,7,Ann\nadd,7,Bob\nadd,7,Ann\nget,7\nget,8\n";
 
-const ANSWERS: &str = "3,get,3\nAnn\nAnn\nBob\n4,get,0\n";
+pub(crate) const ANSWERS: &str = "3,get,3\nAnn\nAnn\nBob\n4,get,0\n";
 
 /// How many calls of the store this run makes: one for the tables, and three for each call.
-const STORE_CALLS: u64 = 16;
+pub(crate) const STORE_CALLS: u64 = 16;
 
 const LINE: &str = "|run|job|calls";
 

@@ -1,20 +1,34 @@
-use Rattle.std.proofs.Common.{ap, refl}
-use Rattle.mig_cli.proofs.Planned.{failure, played-left, refused-plan, stopped-left}
-use Rattle.mig_cli.specs.Plans.{answered}
+use Rattle.std.proofs.Common.{ap}
+use Rattle.mig_store.proofs.Callable.{callable}
+use Rattle.mig_store.proofs.Ended.{whole-store}
+use Rattle.mig_store.proofs.Played.{answered, answers-named}
 use Rattle.mig_cli.specs.Planned as spec
+use Rattle.mig_cli.specs.Plans as plans
+use Rattle.mig_cli.proofs.RunPlans.{all-stopped}
 use Rattle.mig_cli.proofs.running.played_plan.Goals as goal
 
-pub returns-in-Ok-clause-plan : goal.returns-in-Ok-clause-plan
-returns-in-Ok-clause-plan g c = spec.played c.in-Ok.text (rw c.as_slice.ensures at c.in-Ok.ensures.played) (ap (answered c.in-Ok.text) c.new.ensures)
+pub run-requires-clause-callable : goal.run-requires-clause-callable
+run-requires-clause-callable g c = callable c.args.program.now c.requires.within
 
-pub returns-in-Ok-clause-left : goal.returns-in-Ok-clause-left
-returns-in-Ok-clause-left g c = played-left c.args.job.now c.args.bytes.now _ _ c.in-Ok.text (rw c.as_slice.ensures at c.in-Ok.ensures.played)
+pub answers_text-requires : goal.answers_text-requires
+answers_text-requires g c = answers-named c.args.program.now c.args.calls.now.calls c.in-Ok.answers.list c.requires.playable.given c.in-Ok.ensures.queries
 
-pub returns-in-Err-Memory-clause-left : goal.returns-in-Err-Memory-clause-left
-returns-in-Err-Memory-clause-left g c =
-    stopped-left c.args.job.now c.args.bytes.now _ _ _ _ refl (rw c.as_slice.ensures at c.in-Err-Memory.ensures.only_refused) (rw c.as_slice.ensures at c.in-Err-Memory.ensures.stopped)
+pub returns-in_err-answers_text-in-Ok-clause-left : goal.returns-in_err-answers_text-in-Ok-clause-left
+returns-in_err-answers_text-in-Ok-clause-left g c = all-stopped _ _ _ _ _ c.in-Ok.ensures.state
 
-pub returns-in-Err-Calls-clause-plan : goal.returns-in-Err-Calls-clause-plan
-returns-in-Err-Calls-clause-plan g c =
-    refused-plan c.args.job.now c.args.file.now c.args.bytes.now _ _ c.in-Err-Calls.fault c.faulty_calls.result
-    (rw c.as_slice.ensures at (c.in-Err-Calls.ensures.refused c.in-Err-Calls.fault (ap failure c.in-Err-Calls.field-0-is))) c.faulty_calls.ensures
+pub returns-in_ok-answers_text-in-Ok-clause-plan : goal.returns-in_ok-answers_text-in-Ok-clause-plan
+returns-in_ok-answers_text-in-Ok-clause-plan g c =
+    let ran = c.in-Ok.ensures in
+    let old = g.S.Store.meaning c.args.store.now in
+    let text = c.in_ok-answers_text-in-Ok.field-0 in
+    let whole = whole-store old (g.S.Store.meaning c.run.new.store) c.in-Ok.answers ran.sound in
+    spec.played text (record {
+      answered = answered c.args.schema.now c.args.program.now c.args.calls.now.calls old.told c.in-Ok.answers.list text ran.queries ran.answers c.in_ok-answers_text-in-Ok.ensures;
+      state = ran.state;
+      layout = ran.layout;
+      before = whole.0;
+      whole = whole.1;
+    }) (ap (plans.answered text) c.new.ensures)
+
+pub returns-in_ok-answers_text-in-Ok-clause-left : goal.returns-in_ok-answers_text-in-Ok-clause-left
+returns-in_ok-answers_text-in-Ok-clause-left g c = all-stopped _ _ _ _ _ c.in-Ok.ensures.state

@@ -19,17 +19,16 @@ returns-in-Migrate-clause-due g c =
 pub returns-in-Migrate-clause-asked : goal.returns-in-Migrate-clause-asked
 returns-in-Migrate-clause-asked g c = inr (Migrate c.in-Migrate.job c.in-Migrate.options, 1, rw c.in-Migrate.is at c.in-Ok.ensures.found, c.migrated_plan.ensures.asked)
 
-pub returns-in-None-clause-due : goal.returns-in-None-clause-due
-returns-in-None-clause-due g c = run _ _ _ c.in-Run.job c.in-Run.calls (rw (c.in-Run.is, c.in-None.is) at c.in-Ok.ensures.found) c.run_plan.result c.run_plan.ensures.plan
-
-pub returns-in-None-clause-left : goal.returns-in-None-clause-left
-returns-in-None-clause-left g c = left _ (inputs_of g.F.Files g.S.Store c.args.files.now c.args.store.now) (inputs_of g.F.Files g.S.Store c.run_plan.new.files c.run_plan.new.store) c.in-Run.job c.in-Run.calls (rw (c.in-Run.is, c.in-None.is) at c.in-Ok.ensures.found) c.run_plan.ensures.left
-
-pub returns-in-None-clause-asked : goal.returns-in-None-clause-asked
-returns-in-None-clause-asked g c = run-names _ _ _ c.in-Run.job c.in-Run.calls (rw (c.in-Run.is, c.in-None.is) at c.in-Ok.ensures.found) c.run_plan.ensures.asked
-
 pub returns-in-Run-clause-due : goal.returns-in-Run-clause-due
-returns-in-Run-clause-due g c = unbuilt _ _ _ c.in-Ok.command c.in-Ok.ensures.found (rw (c.in-Run.is, c.in-Some.is) refl) c.unbuilt_plan.result refl refl c.unbuilt_plan.ensures
+returns-in-Run-clause-due g c = run _ _ _ c.in-Run.job c.in-Run.calls c.in-Run.answer (rw c.in-Run.is at c.in-Ok.ensures.found) c.run_plan.result c.run_plan.ensures.plan
+
+pub returns-in-Run-clause-left : goal.returns-in-Run-clause-left
+returns-in-Run-clause-left g c =
+    left _ (inputs_of g.F.Files g.S.Store c.args.files.now c.args.store.now) (inputs_of g.F.Files g.S.Store c.run_plan.new.files c.run_plan.new.store) c.in-Run.job c.in-Run.calls c.in-Run.answer
+    (rw c.in-Run.is at c.in-Ok.ensures.found) c.run_plan.ensures.left
+
+pub returns-in-Run-clause-asked : goal.returns-in-Run-clause-asked
+returns-in-Run-clause-asked g c = run-names _ _ _ c.in-Run.job c.in-Run.calls c.in-Run.answer (rw c.in-Run.is at c.in-Ok.ensures.found) c.run_plan.ensures.asked
 
 pub returns-in-Check-clause-due : goal.returns-in-Check-clause-due
 returns-in-Check-clause-due g c = checked _ _ _ c.in-Check.job c.in-Check.answer (rw c.in-Check.is at c.in-Ok.ensures.found) c.checked_plan.result refl c.checked_plan.ensures.plan
@@ -37,5 +36,5 @@ returns-in-Check-clause-due g c = checked _ _ _ c.in-Check.job c.in-Check.answer
 pub returns-in-Check-clause-asked : goal.returns-in-Check-clause-asked
 returns-in-Check-clause-asked g c = check-names _ _ _ c.in-Check.job c.in-Check.answer (rw c.in-Check.is at c.in-Ok.ensures.found) c.checked_plan.ensures.asked
 
-pub returns-clause-due : goal.returns-clause-due
-returns-clause-due g c = unbuilt _ _ _ c.in-Ok.command c.in-Ok.ensures.found (rw c.in-Trial.is refl) c.unbuilt_plan-in-Trial.result refl refl c.unbuilt_plan-in-Trial.ensures
+pub returns-in-Trial-clause-due : goal.returns-in-Trial-clause-due
+returns-in-Trial-clause-due g c = unbuilt _ _ _ c.in-Ok.command c.in-Ok.ensures.found (rw c.in-Trial.is refl) c.unbuilt_plan.result refl refl c.unbuilt_plan.ensures
