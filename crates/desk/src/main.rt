@@ -4,36 +4,45 @@
 use mig_base::{Seq, Word};
 use mig_cli::desk;
 use mig_io::{RealFiles, RealSink, emit};
-use mig_messages::{Status, no_memory, unbuilt_words};
+use mig_messages::{Status, no_memory};
 use mig_storage::VecStore;
-use std::alloc::Global;
+use std::alloc::{AllocError, Global};
+use std::env::{Env, FillError};
+use std::io;
 use std::process::ExitCode;
 use std::rt::Runtime;
-use std::{env, io};
 
-/// The words of the command line, without the program's name.
-fn words_of<R: Runtime + Alloc<A = Global>>(rt: &R) -> io::Result<Vec<Word>> {
-    let alloc = rt.alloc();
-    let mut words = Vec::new(alloc);
-    for word in env::args(rt)?.skip(1) {
-        words.push(Seq::from_slice(alloc, word.as_bytes())?)?;
+/// The word at a place of the command line, of any bytes; none where the words have come to their end. A word that is
+/// longer than the room is asked for again with twice the room.
+fn word_at<R: Env>(alloc: Global, rt: &R, place: usize) -> Result<Option<Word>, AllocError> {
+    let mut room = Vec::new(alloc);
+    for doubled in 8..usize::BITS {
+        room.resize(1usize << doubled, 0u8)?;
+        match rt.arg(place, &mut room) {
+            Ok(len) => return Ok(Some(Seq::from_slice(alloc, &room[..len])?)),
+            Err(FillError::NotPresent) => return Ok(None),
+            Err(FillError::TooLong) => {}
+        }
     }
-    Ok(words)
+    Err(AllocError)
 }
 
-/// Why there are no words: memory ran out, or one is not UTF-8.
-fn refusal_of(error: &io::Error) -> (Status, &'static str) {
-    if error.kind() == io::ErrorKind::OutOfMemory {
-        (Status::Memory, no_memory())
-    } else {
-        (Status::Words, unbuilt_words())
+/// The words of the command line, without the program's name.
+fn words_of<R: Env>(alloc: Global, rt: &R) -> Result<Vec<Word>, AllocError> {
+    let mut words = Vec::new(alloc);
+    for place in 1..usize::MAX {
+        match word_at(alloc, rt, place)? {
+            Some(word) => words.push(word)?,
+            None => break,
+        }
     }
+    Ok(words)
 }
 
 fn main(rt: HostRuntime) -> io::Result<ExitCode> {
     let mut out = RealSink::new(rt.stdout());
     let mut err = RealSink::new(rt.stderr());
-    let status = match words_of(&rt) {
+    let status = match words_of(rt.alloc(), &rt) {
         Ok(words) => {
             let mut files = RealFiles::new(rt.clone()?);
             let mut store = VecStore::new(rt.alloc());
@@ -46,13 +55,10 @@ fn main(rt: HostRuntime) -> io::Result<ExitCode> {
                 &mut store,
             )
         }
-        Err(error) => {
-            let (status, line) = refusal_of(&error);
-            match emit(&mut err, line.as_bytes()) {
-                Ok(()) => status.number(),
-                Err(_) => Status::Sink.number(),
-            }
-        }
+        Err(_) => match emit(&mut err, no_memory().as_bytes()) {
+            Ok(()) => Status::Memory.number(),
+            Err(_) => Status::Sink.number(),
+        },
     };
     Ok(ExitCode::from(status))
 }
