@@ -77,9 +77,10 @@ fn plan<F: Files, S: Store>(
 /// Does what the words say, puts an answer on `out` and a report on `err`, and answers the number of its status (`Status`).
 ///
 /// The words are those of a command line without the program's name (`read_words`). The commands whose work is there are
-/// `migrate FILE`, with its options, `check FILE ANSWER` and `run FILE CALLS`; FILE holds a job (`read_job`), ANSWER an answer
-/// over it (`read_answer`), of which the checker gives its verdict (`check`), and CALLS calls of its program (`read_calls`),
-/// which are played over the store from empty tables (`play`).
+/// `migrate FILE`, with its options, `check FILE ANSWER`, `run FILE CALLS` and `run FILE CALLS ANSWER`; FILE holds a job
+/// (`read_job`), ANSWER an answer over it (`read_answer`), of which the checker gives its verdict (`check`), and CALLS calls
+/// of its program (`read_calls`), which are played over the store from empty tables (`run`): with the job's program, or with
+/// that of an answer which the checker accepts.
 ///
 /// | status | when | on `out` | on `err` |
 /// |---|---|---|---|
@@ -90,14 +91,14 @@ fn plan<F: Files, S: Store>(
 /// | 1 | the command is another | | `words: not built` |
 /// | 2 | the text of the job has a wrong token | | `FILE:LINE:COLUMN: not expected` |
 /// | 2 | the job breaks a typing rule | | `FILE: RULE at A B` |
-/// | 2 | `check`, and the text of the answer is none over the job, in its one spelling | | as for a job, with ANSWER for FILE |
+/// | 2 | the text of the answer is none over the job, in its one spelling | | as for a job, with ANSWER for FILE |
 /// | 3 | `migrate`, and the search tried all that it was to try | | entries, then `exhausted: N entries` |
 /// | 4 | `migrate`, and the search spent its budget | | entries, then `spent: N entries` |
-/// | 5 | `check`, and the certificate is not valid | | `rejected: pair P obligation O step S: WHY`, its first broken place |
+/// | 5 | the certificate of the answer is not valid | | `rejected: pair P obligation O step S: WHY`, its first broken place |
 /// | 6 | a file could not be read: the count of `files` rose | | `FILE: cannot read` |
 /// | 7 | a sink failed: its count rose | a prefix of its text | nothing, or a prefix where `out` has all of its text |
 /// | 8 | memory ran out | | `out of memory` |
-/// | 9 | `run`, the calls are sound, and the store failed: its count rose, or it was broken before | | `store failed` |
+/// | 9 | `run`, the calls and the answer are sound, and the store failed: its count rose, or it was broken before | | `store failed` |
 /// | 10 | the job is longer than 262,144 bytes, the calls than 8,388,608, or the answer than 67,108,864 | | `FILE: longer than N bytes` |
 /// | 10 | the text of the job, or of the answer, passes a limit | | `FILE:LINE: limit NAME` |
 /// | 10 | there are more than 100,000 calls | | `CALLS:0: limit calls` |
@@ -105,7 +106,7 @@ fn plan<F: Files, S: Store>(
 /// | 11 | a record says no call of the program, and is the first | | `CALLS: record N: WHY` |
 ///
 /// Files are asked for in the order of the words, and none after a refusal. Calls are played only where all of them are
-/// sound. After `run` with 7, 8 or 9 the store tells the state at entry, or that after the first n calls, none left out,
+/// sound, and the answer is, where one is named. After `run` with 7, 8 or 9 the store tells the state at entry, or that after the first n calls, none left out,
 /// or it is broken; a call that ends otherwise than with 0, 7, 8 or 9 leaves it alone, and so does every `migrate` and `check`.
 ///
 /// No transaction may be begun in the store, unless it is broken; so it is left.
